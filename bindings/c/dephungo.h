@@ -4,7 +4,9 @@
  * One call, dephungo_read, reads a whole input and writes the results into buffers of the
  * caller. The library owns nothing and keeps nothing after the call. A record is plain
  * integers: any memory of its size may be passed, and a copy of it stays valid as long as the
- * input and the texts do.
+ * input and the texts do. A field whose comment begins with constants, such as TEXT, has a value
+ * only where the record has one of them, and a range with a flag, such as place with has_place,
+ * only where that is not 0: elsewhere its bytes are unspecified.
  * The snippet is the string literal that the input comes from, as it is in the source. If it
  * stands for the input, it is the source literal of the input.
  * A range of the input is in byte offsets of the input. A range in the source is in byte
@@ -31,12 +33,13 @@ typedef struct dephungo_range {
     size_t end;   /* the byte offset of its end, which is excluded */
 } dephungo_range;
 
-/* a byte range, or none */
-typedef struct dephungo_maybe_range {
-    size_t is_present; /* 0 if there is no range */
-    size_t start;      /* the byte offset of its start */
-    size_t end;        /* the byte offset of its end, which is excluded */
-} dephungo_maybe_range;
+/* the next two characters, if wants_peeks is set; without it there are none */
+typedef struct dephungo_peeks {
+    uint8_t has_peek;          /* not 0 if there is a next character */
+    uint8_t has_peek_ahead;    /* not 0 if there is a character after that */
+    dephungo_range peek;       /* the byte range of the next character in the source */
+    dephungo_range peek_ahead; /* the byte range in the source of the character after that */
+} dephungo_peeks;
 
 /* the kind of text that the input is, as ParseMode of rustc_parse_format */
 enum {
@@ -53,7 +56,7 @@ typedef struct dephungo_options {
     size_t hashes;             /* the number of hashes of a raw literal */
     uint32_t has_snippet;      /* not 0 if there is a snippet: the source text that the input should come from */
     uint32_t appended_newline; /* not 0 if a newline was appended to the input that is not in the snippet */
-    uint32_t wants_peeks;      /* not 0 to fill in peek and peek_ahead; otherwise each of them is none */
+    uint32_t wants_peeks;      /* not 0 to fill in peeks; otherwise no character is there */
 } dephungo_options;
 
 /* the kind of a width or a precision */
@@ -67,7 +70,7 @@ enum {
 
 /* a width or a precision */
 typedef struct dephungo_count {
-    uint32_t kind;            /* one of the COUNT constants */
+    uint8_t kind;             /* one of the COUNT constants */
     size_t number;            /* IS: the number; IS_PARAM and IS_STAR: the index of the argument, from 0 */
     dephungo_range name;      /* IS_NAME: the name, as a range of the input */
     dephungo_range name_span; /* IS_NAME: the byte range of the name in the source */
@@ -111,20 +114,24 @@ enum {
 
 /* a format specification: what a placeholder has after its colon */
 typedef struct dephungo_spec {
-    uint32_t fill;                       /* the code of the fill character, or NO_FILL */
-    uint32_t align;                      /* one of the ALIGN constants */
-    uint32_t sign;                       /* one of the SIGN constants */
-    uint32_t debug_hex;                  /* one of the HEX constants */
-    uint32_t alternate;                  /* not 0 if the flag `#` is written */
-    uint32_t zero_pad;                   /* not 0 if the flag `0` is written */
-    uint32_t type_kind;                  /* one of the TYPE constants */
-    dephungo_count width;                /* the width */
-    dephungo_count precision;            /* the precision */
-    dephungo_range type;                 /* TYPE_TEXT: the type, as a range of the input */
-    dephungo_maybe_range fill_span;      /* the byte range of the fill character in the source */
-    dephungo_maybe_range width_span;     /* the byte range of the width in the source */
-    dephungo_maybe_range precision_span; /* the byte range of the precision in the source */
-    dephungo_maybe_range type_span;      /* the byte range of the type in the source */
+    uint32_t fill;                 /* the code of the fill character, or NO_FILL */
+    uint8_t align;                 /* one of the ALIGN constants */
+    uint8_t sign;                  /* one of the SIGN constants */
+    uint8_t debug_hex;             /* one of the HEX constants */
+    uint8_t alternate;             /* not 0 if the flag `#` is written */
+    uint8_t zero_pad;              /* not 0 if the flag `0` is written */
+    uint8_t type_kind;             /* one of the TYPE constants */
+    uint8_t has_fill_span;         /* not 0 if there is a fill_span */
+    uint8_t has_width_span;        /* not 0 if there is a width_span */
+    uint8_t has_precision_span;    /* not 0 if there is a precision_span */
+    uint8_t has_type_span;         /* not 0 if there is a type_span */
+    dephungo_count width;          /* the width */
+    dephungo_count precision;      /* the precision */
+    dephungo_range type;           /* TYPE_TEXT: the type, as a range of the input */
+    dephungo_range fill_span;      /* the byte range of the fill character in the source */
+    dephungo_range width_span;     /* the byte range of the width in the source */
+    dephungo_range precision_span; /* the byte range of the precision in the source */
+    dephungo_range type_span;      /* the byte range of the type in the source */
 } dephungo_spec;
 
 /* the kind of piece that a call returned */
@@ -143,18 +150,18 @@ enum {
 
 /* a call of the parser: the piece that it returned, and the state after it */
 typedef struct dephungo_step {
-    uint32_t kind;                   /* one of the PIECE constants */
-    uint32_t position;               /* ARGUMENT: one of the POSITION constants */
-    size_t number;                   /* IMPLICIT and INDEX: the index of the argument, from 0 */
-    dephungo_range text;             /* TEXT: the text; NAMED: the name; as a range of the input */
-    dephungo_range position_span;    /* ARGUMENT: the byte range of its position in the source */
-    size_t spec;                     /* ARGUMENT: the number of its record in specs, from 1, or 0 for the default specification, which has no record */
-    dephungo_maybe_range place;      /* the byte range of the placeholder that the call closed; none without a source literal */
-    size_t offset;                   /* the byte offset in the input up to which it is read after the call */
-    size_t next_index;               /* the index of the next implicit argument after the call */
-    size_t lines;                    /* the number of lines after the call */
-    dephungo_maybe_range peek;       /* the byte range of the next character in the source, if wants_peeks is set */
-    dephungo_maybe_range peek_ahead; /* the byte range in the source of the character after that, if wants_peeks is set */
+    uint8_t kind;                 /* one of the PIECE constants */
+    uint8_t position;             /* ARGUMENT: one of the POSITION constants */
+    uint8_t has_place;            /* not 0 if the call closed a placeholder; always 0 without a source literal */
+    size_t number;                /* IMPLICIT and INDEX: the index of the argument, from 0 */
+    dephungo_range text;          /* TEXT: the text; NAMED: the name; as a range of the input */
+    dephungo_range position_span; /* ARGUMENT: the byte range of its position in the source */
+    size_t spec;                  /* ARGUMENT: the number of its record in specs, from 1, or 0 for the default specification, which has no record */
+    dephungo_range place;         /* the byte range in the source of the placeholder that the call closed */
+    size_t offset;                /* the byte offset in the input up to which it is read after the call */
+    size_t next_index;            /* the index of the next implicit argument after the call */
+    size_t lines;                 /* the number of lines after the call */
+    dephungo_peeks peeks;         /* the two characters after what the call read */
 } dephungo_step;
 
 /* the suggestion of a fault, as Suggestion of rustc_parse_format */
@@ -169,29 +176,30 @@ enum {
 
 /* an error in the input, with ranges of texts for what it says */
 typedef struct dephungo_fault {
-    dephungo_range description;        /* the message, as a range of texts */
-    dephungo_maybe_range note;         /* an additional note, as a range of texts */
-    dephungo_range label;              /* the label of span, as a range of texts */
-    dephungo_range span;               /* the byte range of the error in the source */
-    dephungo_maybe_range second_label; /* the label of second_span, as a range of texts */
-    dephungo_range second_span;        /* a second byte range in the source, if there is a second label */
-    uint32_t suggestion;               /* one of the MEND constants */
-    dephungo_range suggestion_span;    /* the byte range in the source that the suggestion is about */
-    dephungo_range suggestion_text;    /* REORDER_FORMAT_PARAMETER: the replacement, as a range of texts */
-    size_t step;                       /* the index, from 0, of the step that found it */
+    uint8_t has_note;               /* not 0 if there is a note */
+    uint8_t has_second_label;       /* not 0 if there is a second label */
+    uint32_t suggestion;            /* one of the MEND constants */
+    dephungo_range description;     /* the message, as a range of texts */
+    dephungo_range note;            /* an additional note, as a range of texts */
+    dephungo_range label;           /* the label of span, as a range of texts */
+    dephungo_range span;            /* the byte range of the error in the source */
+    dephungo_range second_label;    /* the label of second_span, as a range of texts */
+    dephungo_range second_span;     /* a second byte range in the source, if there is a second label */
+    dephungo_range suggestion_span; /* the byte range in the source that the suggestion is about */
+    dephungo_range suggestion_text; /* REORDER_FORMAT_PARAMETER: the replacement, as a range of texts */
+    size_t step;                    /* the index, from 0, of the step that found it */
 } dephungo_fault;
 
 /* the lengths of the results, even if they do not fit, and the state before the first call */
 typedef struct dephungo_answer {
-    size_t steps;                    /* the number of steps; the last one is the call at the end of the input */
-    size_t specs;                    /* the number of specifications, in the order of the steps that have them */
-    size_t faults;                   /* the number of faults, in the order of the parser's list of errors */
-    size_t texts;                    /* the number of bytes of the texts of the faults */
-    size_t lines;                    /* the number of lines of a source literal, each without its newline and its indent */
-    size_t front_faults;             /* the number of faults that were put at the front of the list when found: they come first */
-    uint32_t is_source_literal;      /* not 0 if the snippet is the source literal of the input */
-    dephungo_maybe_range peek;       /* the byte range of the first character in the source, if wants_peeks is set */
-    dephungo_maybe_range peek_ahead; /* the byte range of the second character in the source, if wants_peeks is set */
+    size_t steps;              /* the number of steps; the last one is the call at the end of the input */
+    size_t specs;              /* the number of specifications, in the order of the steps that have them */
+    size_t faults;             /* the number of faults, in the order of the parser's list of errors */
+    size_t texts;              /* the number of bytes of the texts of the faults */
+    size_t lines;              /* the number of lines of a source literal, each without its newline and its indent */
+    size_t front_faults;       /* the number of faults that were put at the front of the list when found: they come first */
+    uint8_t is_source_literal; /* not 0 if the snippet is the source literal of the input */
+    dephungo_peeks peeks;      /* the first two characters */
 } dephungo_answer;
 
 /* the return values of dephungo_read */

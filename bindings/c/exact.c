@@ -37,8 +37,10 @@ static int answers(const row *r, const size_t rooms[BUFFERS], int less, uint32_t
 
 /* The same in each field; what lies between fields may be anything. */
 static int are_same(const dephungo_answer *a, const dephungo_answer *b) {
+    const dephungo_peeks *p = &a->peeks, *q = &b->peeks;
     return memcmp(a, b, offsetof(dephungo_answer, is_source_literal)) == 0 && a->is_source_literal == b->is_source_literal &&
-           memcmp(&a->peek, &b->peek, sizeof a->peek) == 0 && memcmp(&a->peek_ahead, &b->peek_ahead, sizeof a->peek_ahead) == 0;
+           p->has_peek == q->has_peek && memcmp(&p->peek, &q->peek, sizeof p->peek) == 0 &&
+           p->has_peek_ahead == q->has_peek_ahead && memcmp(&p->peek_ahead, &q->peek_ahead, sizeof p->peek_ahead) == 0;
 }
 
 static int holds(const row *r) {

@@ -18,11 +18,15 @@ int main(int argc, char **argv) {
     if (code != DEPHUNGO_DONE) return fprintf(stderr, "code %u\n", (unsigned)code), 2;
     for (size_t i = 0; i < answer.steps; i++) {
         dephungo_step *s = &steps[i];
-        int length = (int)(s->text.end - s->text.start);
-        if (s->kind == DEPHUNGO_PIECE_TEXT) printf("text \"%.*s\"\n", length, input + s->text.start);
+        if (s->kind == DEPHUNGO_PIECE_TEXT) {
+            printf("text \"%.*s\"\n", (int)(s->text.end - s->text.start), input + s->text.start);
+        }
         if (s->kind != DEPHUNGO_PIECE_ARGUMENT) continue;
-        if (s->position == DEPHUNGO_POSITION_NAMED) printf("argument %.*s", length, input + s->text.start);
-        else printf("argument %zu", s->number);
+        if (s->position == DEPHUNGO_POSITION_NAMED) {
+            printf("argument %.*s", (int)(s->text.end - s->text.start), input + s->text.start);
+        } else {
+            printf("argument %zu", s->number);
+        }
         if (s->spec && specs[s->spec - 1].width.kind == DEPHUNGO_COUNT_IS) printf(" width %zu", specs[s->spec - 1].width.number);
         printf(" at %zu..%zu\n", s->position_span.start, s->position_span.end);
     }

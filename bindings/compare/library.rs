@@ -47,22 +47,32 @@ pub struct Buffers {
     pub answer: Answer,
 }
 
+/// Options, an answer or any other record, each byte of which is this one.
+fn filled<T: Copy>(byte: u8) -> T {
+    let mut record = std::mem::MaybeUninit::uninit();
+    // SAFETY: it is asked only for records and bytes, which are plain integers.
+    unsafe {
+        std::ptr::write_bytes(record.as_mut_ptr(), byte, 1);
+        record.assume_init()
+    }
+}
+
 /// Options, an answer or any other record, with nothing but zeros.
 pub fn blank<T: Copy>() -> T {
-    // SAFETY: it is asked only for records and bytes, which are plain integers.
-    unsafe { std::mem::zeroed() }
+    filled(0)
 }
 
 impl Buffers {
-    /// Buffers with room for the records that an answer counts.
+    /// Buffers with room for the records that an answer counts. Whoever reads a field that the
+    /// library did not write finds a wrong number there.
     pub fn with_room(told: Answer) -> Self {
         Buffers {
-            steps: vec![blank(); told.steps],
-            specs: vec![blank(); told.specs],
-            faults: vec![blank(); told.faults],
-            texts: vec![0; told.texts],
-            lines: vec![blank(); told.lines],
-            answer: blank(),
+            steps: vec![filled(0xa5); told.steps],
+            specs: vec![filled(0xa5); told.specs],
+            faults: vec![filled(0xa5); told.faults],
+            texts: vec![0xa5; told.texts],
+            lines: vec![filled(0xa5); told.lines],
+            answer: filled(0xa5),
         }
     }
 

@@ -16,28 +16,30 @@ fn range(at: Extent) -> Range<usize> {
     at.start..at.end
 }
 
-fn maybe(at: MaybeExtent) -> Option<Range<usize>> {
-    (at.is_present != 0).then_some(at.start..at.end)
+fn maybe(has_range: u8, at: Extent) -> Option<Range<usize>> {
+    (has_range != 0).then(|| range(at))
 }
 
 /// The meaning of a number.
-fn meant<T: Clone>(tag: u32, meanings: &[(u32, T)]) -> T {
+fn meant<T: Clone>(tag: u8, meanings: &[(u8, T)]) -> T {
     let found = meanings.iter().find(|(number, _)| *number == tag);
     found.unwrap_or_else(|| panic!("a record with the tag {tag}")).1.clone()
 }
 
 /// A piece of an input by its records; each implicit number is so much higher.
 fn piece<'a>(input: &'a str, step: &Step, specs: &[Spec], more: usize) -> Option<Piece<'a>> {
-    if step.kind != PIECE_ARGUMENT {
-        let pieces = [(PIECE_NONE, None), (PIECE_TEXT, Some(Piece::Lit(&input[range(step.text)])))];
-        return meant(step.kind, &pieces);
+    match step.kind {
+        PIECE_NONE => return None,
+        PIECE_TEXT => return Some(Piece::Lit(&input[range(step.text)])),
+        PIECE_ARGUMENT => {}
+        other => panic!("a step with the tag {other}"),
     }
-    let (number, name) = (step.number, &input[range(step.text)]);
-    let position = meant(step.position, &[
-        (POSITION_IMPLICIT, ArgumentImplicitlyIs(number.wrapping_add(more))),
-        (POSITION_INDEX, ArgumentIs(number)),
-        (POSITION_NAMED, ArgumentNamed(name)),
-    ]);
+    let position = match step.position {
+        POSITION_IMPLICIT => ArgumentImplicitlyIs(step.number.wrapping_add(more)),
+        POSITION_INDEX => ArgumentIs(step.number),
+        POSITION_NAMED => ArgumentNamed(&input[range(step.text)]),
+        other => panic!("a position with the tag {other}"),
+    };
     let spec = step.spec.checked_sub(1).map(|at| &specs[at]);
     let format = spec.map_or_else(FormatSpec::default, |spec| format_spec(input, spec, more));
     let position_span = range(step.position_span);
@@ -45,20 +47,20 @@ fn piece<'a>(input: &'a str, step: &Step, specs: &[Spec], more: usize) -> Option
 }
 
 fn count<'a>(input: &'a str, count: &CountRecord, more: usize) -> Count<'a> {
-    let (number, name) = (count.number, &input[range(count.name)]);
-    meant(count.kind, &[
-        (COUNT_IMPLIED, CountImplied),
-        (COUNT_IS, CountIs(number as u16)),
-        (COUNT_IS_NAME, CountIsName(name, range(count.name_span))),
-        (COUNT_IS_PARAM, CountIsParam(number)),
-        (COUNT_IS_STAR, CountIsStar(number.wrapping_add(more))),
-    ])
+    match count.kind {
+        COUNT_IMPLIED => CountImplied,
+        COUNT_IS => CountIs(count.number.try_into().expect("a number of 16 bits")),
+        COUNT_IS_NAME => CountIsName(&input[range(count.name)], range(count.name_span)),
+        COUNT_IS_PARAM => CountIsParam(count.number),
+        COUNT_IS_STAR => CountIsStar(count.number.wrapping_add(more)),
+        other => panic!("a count with the tag {other}"),
+    }
 }
 
 fn format_spec<'a>(input: &'a str, spec: &Spec, more: usize) -> FormatSpec<'a> {
     FormatSpec {
         fill: char::from_u32(spec.fill),
-        fill_span: maybe(spec.fill_span),
+        fill_span: maybe(spec.has_fill_span, spec.fill_span),
         align: meant(spec.align, &[
             (ALIGN_UNKNOWN, AlignUnknown),
             (ALIGN_LEFT, AlignLeft),
@@ -78,17 +80,18 @@ fn format_spec<'a>(input: &'a str, spec: &Spec, more: usize) -> FormatSpec<'a> {
             (HEX_UPPER, Some(DebugHex::Upper)),
         ]),
         precision: count(input, &spec.precision, more),
-        precision_span: maybe(spec.precision_span),
+        precision_span: maybe(spec.has_precision_span, spec.precision_span),
         width: count(input, &spec.width, more),
-        width_span: maybe(spec.width_span),
-        ty: meant(spec.type_kind, &[
-            (TYPE_NONE, ""),
-            (TYPE_TEXT, &input[range(spec.ty)]),
-            (TYPE_LOWER_HEX, "x"),
-            (TYPE_UPPER_HEX, "X"),
-            (TYPE_DEBUG, "?"),
-        ]),
-        ty_span: maybe(spec.ty_span),
+        width_span: maybe(spec.has_width_span, spec.width_span),
+        ty: match spec.type_kind {
+            TYPE_NONE => "",
+            TYPE_TEXT => &input[range(spec.ty)],
+            TYPE_LOWER_HEX => "x",
+            TYPE_UPPER_HEX => "X",
+            TYPE_DEBUG => "?",
+            other => panic!("a type with the tag {other}"),
+        },
+        ty_span: maybe(spec.has_ty_span, spec.ty_span),
     }
 }
 
@@ -97,10 +100,11 @@ fn error(texts: &[u8], fault: &Fault) -> ParseError {
     let at = range(fault.suggestion_span);
     ParseError {
         description: text(range(fault.description)),
-        note: maybe(fault.note).map(text),
+        note: maybe(fault.has_note, fault.note).map(text),
         label: text(range(fault.label)),
         span: range(fault.span),
-        secondary_label: maybe(fault.second_label).map(|it| (text(it), range(fault.second_span))),
+        secondary_label: maybe(fault.has_second_label, fault.second_label)
+            .map(|it| (text(it), range(fault.second_span))),
         suggestion: match fault.suggestion {
             MEND_NONE => Suggestion::None,
             MEND_USE_POSITIONAL => Suggestion::UsePositional,
@@ -144,7 +148,7 @@ fn compare(case: &Case, random: &mut Random) -> usize {
     assert!(backs.windows(2).all(|two| two[0].step <= two[1].step), "backs of {case:?}");
     let mut parser = ours::parser(case);
     assert_eq!(answer.is_source_literal != 0, parser.is_source_literal, "literal of {case:?}");
-    let mut last = Step { peek: answer.peek, peek_ahead: answer.peek_ahead, ..blank() };
+    let mut last = Step { peeks: answer.peeks, ..blank() };
     let (mut places, mut known_lines) = (vec![], vec![]);
     // by how much implicit numbers are higher, and from which step on faults are kept
     let (mut more, mut since) = (0, 0);
@@ -152,10 +156,12 @@ fn compare(case: &Case, random: &mut Random) -> usize {
     for number in 0..=end + 3 {
         let rest = &case.input[last.offset..];
         let mut rest = rest.char_indices().map(|(at, c)| (last.offset + at, c));
-        for (told, seen) in [(last.peek, parser.peek()), (last.peek_ahead, parser.peek_ahead())] {
+        let Peeks { has_peek, has_peek_ahead, peek, peek_ahead } = last.peeks;
+        let told = [maybe(has_peek, peek), maybe(has_peek_ahead, peek_ahead)];
+        for (told, seen) in told.into_iter().zip([parser.peek(), parser.peek_ahead()]) {
             let (place, next) = seen.map(|(place, at, c)| (place, (at, c))).unzip();
             assert_eq!(rest.next(), next, "peek {number} of {case:?}");
-            assert_eq!(maybe(told), place.filter(|_| has_peeks), "peek {number} of {case:?}");
+            assert_eq!(told, place.filter(|_| has_peeks), "peek {number} of {case:?}");
         }
         assert_eq!(parser.curarg, last.next_index.wrapping_add(more), "curarg {number} of {case:?}");
         assert_eq!(parser.arg_places, places, "arg_places {number} of {case:?}");
@@ -176,7 +182,7 @@ fn compare(case: &Case, random: &mut Random) -> usize {
         let texts = pieces.map(|piece| ours::places(&case.input, &piece));
         assert_eq!(texts[0], texts[1], "places of the texts of piece {number} of {case:?}");
         if parser.is_source_literal && number <= end {
-            places.extend(maybe(step.place));
+            places.extend(maybe(step.has_place, step.place));
             known_lines.extend(lines[known_lines.len()..step.lines].iter().map(|it| range(*it)));
         }
         last = step;

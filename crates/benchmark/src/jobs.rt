@@ -4,7 +4,10 @@ use crate::digest::Digest;
 use crate::inputs::literal;
 use crate::random::Random;
 use flat_reading::read::read;
-use flat_reading::records::{Answer, CountRecord, Extent, Fault, MaybeExtent, Spec, Step};
+use flat_reading::records::{
+    Answer, COUNT_IMPLIED, COUNT_IS_NAME, CountRecord, Extent, Fault, PIECE_ARGUMENT, PIECE_TEXT,
+    POSITION_NAMED, Peeks, Spec, Step, TYPE_TEXT,
+};
 use flat_reading::task::Task as FlatTask;
 use format_lint::run::run;
 use format_lint::task::{OutputKind, Task};
@@ -181,10 +184,11 @@ pub fn lint_each(
 
 const NO_EXTENT: Extent = Extent { start: 0, end: 0 };
 
-const NO_PLACE: MaybeExtent = MaybeExtent {
-    is_present: 0,
-    start: 0,
-    end: 0,
+const NO_PEEKS: Peeks = Peeks {
+    has_peek: 0,
+    has_peek_ahead: 0,
+    peek: NO_EXTENT,
+    peek_ahead: NO_EXTENT,
 };
 
 const NO_COUNT: CountRecord = CountRecord {
@@ -202,38 +206,44 @@ const NO_SPEC: Spec = Spec {
     alternate: 0,
     zero_pad: 0,
     type_kind: 0,
+    has_fill_span: 0,
+    has_width_span: 0,
+    has_precision_span: 0,
+    has_ty_span: 0,
     width: NO_COUNT,
     precision: NO_COUNT,
     ty: NO_EXTENT,
-    fill_span: NO_PLACE,
-    width_span: NO_PLACE,
-    precision_span: NO_PLACE,
-    ty_span: NO_PLACE,
+    fill_span: NO_EXTENT,
+    width_span: NO_EXTENT,
+    precision_span: NO_EXTENT,
+    ty_span: NO_EXTENT,
 };
 
 const NO_STEP: Step = Step {
     kind: 0,
     position: 0,
+    has_place: 0,
     number: 0,
     text: NO_EXTENT,
     position_span: NO_EXTENT,
     spec: 0,
-    place: NO_PLACE,
+    place: NO_EXTENT,
     offset: 0,
     next_index: 0,
     lines: 0,
-    peek: NO_PLACE,
-    peek_ahead: NO_PLACE,
+    peeks: NO_PEEKS,
 };
 
 const NO_FAULT: Fault = Fault {
+    has_note: 0,
+    has_second_label: 0,
+    suggestion: 0,
     description: NO_EXTENT,
-    note: NO_PLACE,
+    note: NO_EXTENT,
     label: NO_EXTENT,
     span: NO_EXTENT,
-    second_label: NO_PLACE,
+    second_label: NO_EXTENT,
     second_span: NO_EXTENT,
-    suggestion: 0,
     suggestion_span: NO_EXTENT,
     suggestion_text: NO_EXTENT,
     step: 0,
@@ -247,8 +257,7 @@ const NO_ANSWER: Answer = Answer {
     lines: 0,
     front_faults: 0,
     is_source_literal: 0,
-    peek: NO_PLACE,
-    peek_ahead: NO_PLACE,
+    peeks: NO_PEEKS,
 };
 
 /// The buffers that a caller keeps from call to call.
@@ -272,10 +281,45 @@ fn make_buffers(alloc: Global) -> Result<Buffers, AllocError> {
     })
 }
 
-/// Adds a byte range.
-fn add_extent(digest: &mut Digest, extent: &Extent) {
-    digest.add_size(extent.start);
-    digest.add_size(extent.end);
+/// Adds a byte range, or zeros if the record does not use it.
+fn add_extent(digest: &mut Digest, is_used: bool, extent: &Extent) {
+    digest.add_size(if is_used { extent.start } else { 0 });
+    digest.add_size(if is_used { extent.end } else { 0 });
+}
+
+/// Adds the end of a byte range, or 0 if the number before it is 0.
+fn add_end(digest: &mut Digest, has_range: u8, extent: &Extent) {
+    digest.add_size(if has_range == 0 { 0 } else { extent.end });
+}
+
+/// Adds the number in a count, or 0 if it has none.
+fn add_number(digest: &mut Digest, count: &CountRecord) {
+    let has_number = !matches!(count.kind, COUNT_IMPLIED | COUNT_IS_NAME);
+    digest.add_size(if has_number { count.number } else { 0 });
+}
+
+/// Adds the record of a step.
+fn add_step_record(digest: &mut Digest, step: &Step) {
+    let is_argument = step.kind == PIECE_ARGUMENT;
+    let has_name = is_argument && step.position == POSITION_NAMED;
+    let has_number = is_argument && !has_name;
+    digest.add(u64::from(step.kind));
+    digest.add_size(if has_number { step.number } else { 0 });
+    add_extent(digest, has_name || step.kind == PIECE_TEXT, &step.text);
+    add_extent(digest, is_argument, &step.position_span);
+    add_end(digest, step.has_place, &step.place);
+    digest.add_size(step.offset);
+}
+
+/// Adds the record of a specification.
+fn add_spec_record(digest: &mut Digest, spec: &Spec) {
+    digest.add(u64::from(spec.fill));
+    digest.add(u64::from(spec.align));
+    add_extent(digest, spec.type_kind == TYPE_TEXT, &spec.ty);
+    add_number(digest, &spec.width);
+    add_extent(digest, spec.width.kind == COUNT_IS_NAME, &spec.width.name);
+    add_number(digest, &spec.precision);
+    add_end(digest, spec.has_precision_span, &spec.precision_span);
 }
 
 /// Adds the records that a call has written.
@@ -283,29 +327,18 @@ fn add_records(digest: &mut Digest, buffers: &Buffers, answer: &Answer) {
     digest.add_size(answer.texts);
     digest.add(u64::from(answer.is_source_literal));
     for step in buffers.steps.iter().take(answer.steps) {
-        digest.add(u64::from(step.kind));
-        digest.add_size(step.number);
-        add_extent(digest, &step.text);
-        add_extent(digest, &step.position_span);
-        digest.add_size(step.place.end);
-        digest.add_size(step.offset);
+        add_step_record(digest, step);
     }
     for spec in buffers.specs.iter().take(answer.specs) {
-        digest.add(u64::from(spec.fill));
-        digest.add(u64::from(spec.align));
-        add_extent(digest, &spec.ty);
-        digest.add_size(spec.width.number);
-        add_extent(digest, &spec.width.name);
-        digest.add_size(spec.precision.number);
-        digest.add_size(spec.precision_span.end);
+        add_spec_record(digest, spec);
     }
     for fault in buffers.faults.iter().take(answer.faults) {
-        add_extent(digest, &fault.description);
-        add_extent(digest, &fault.span);
+        add_extent(digest, true, &fault.description);
+        add_extent(digest, true, &fault.span);
         digest.add_size(fault.step);
     }
     for line in buffers.lines.iter().take(answer.lines) {
-        add_extent(digest, line);
+        add_extent(digest, true, line);
     }
 }
 

@@ -10,7 +10,6 @@ use Rattle.rustc_parse_format.specs.Faults.{RemoveRawIdent, ReorderFormatParamet
 use Rattle.rustc_parse_format.specs.Faults.{UseRustDebugPrintingMacro}
 use Rattle.rustc_parse_format.specs.World.{Place}
 use Rattle.flat_reading.specs.declared.records.Extent.{Extent}
-use Rattle.flat_reading.specs.declared.records.MaybeExtent.{MaybeExtent}
 use Rattle.flat_reading.specs.declared.records.Fault.{Fault}
 use Rattle.flat_reading.proofs.Lists.{still_after}
 use Rattle.flat_reading.specs.ErrorRecords.{Extends, Grows, Holds, HoldsError, HoldsErrors}
@@ -81,16 +80,16 @@ Holds-grow xs ys from to t h k =
           ∙ sym (between_is xs from to) ∙ k.same;
     }
 
-pub HoldsMaybe-grow : (xs ys : List ℕ) (r : MaybeExtent) (o : Option (List ℕ)) → Extends xs ys
-    → HoldsMaybe xs r o → HoldsMaybe ys r o
-HoldsMaybe-grow xs ys r None h k = k
-HoldsMaybe-grow xs ys r (Some t) h k = (k.0, Holds-grow xs ys r.start r.end t h k.1)
+pub HoldsMaybe-grow : (xs ys : List ℕ) (has : ℕ) (r : Extent) (o : Option (List ℕ)) → Extends xs ys
+    → HoldsMaybe xs has r o → HoldsMaybe ys has r o
+HoldsMaybe-grow xs ys has r None h k = k
+HoldsMaybe-grow xs ys has r (Some t) h k = (k.0, Holds-grow xs ys r.start r.end t h k.1)
 
-pub HoldsSecond-grow : (xs ys : List ℕ) (r : MaybeExtent) (s : Extent) (o : Option (List ℕ × Place))
-    → Extends xs ys → HoldsSecond xs r s o
-    → HoldsSecond ys r s o
-HoldsSecond-grow xs ys r s None h k = k
-HoldsSecond-grow xs ys r s (Some x) h k = (k.0, Holds-grow xs ys r.start r.end x.0 h k.1, k.2)
+pub HoldsSecond-grow : (xs ys : List ℕ) (has : ℕ) (r s : Extent) (o : Option (List ℕ × Place))
+    → Extends xs ys → HoldsSecond xs has r s o
+    → HoldsSecond ys has r s o
+HoldsSecond-grow xs ys has r s None h k = k
+HoldsSecond-grow xs ys has r s (Some x) h k = (k.0, Holds-grow xs ys r.start r.end x.0 h k.1, k.2)
 
 pub HoldsSuggestion-grow : (xs ys : List ℕ) (n : ℕ) (s t : Extent) (g : Suggestion Place)
     → Extends xs ys → HoldsSuggestion xs n s t g
@@ -107,10 +106,11 @@ HoldsError-grow : (xs ys : List ℕ) (f : Fault) (m : Message Place) → Extends
     → HoldsError xs f m → HoldsError ys f m
 HoldsError-grow xs ys f m h k = record {
   description = Holds-grow xs ys _ _ _ h k.description;
-  note = HoldsMaybe-grow xs ys f.note m.note h k.note;
+  note = HoldsMaybe-grow xs ys f.has_note f.note m.note h k.note;
   label = Holds-grow xs ys _ _ _ h k.label;
   span = k.span;
-  second = HoldsSecond-grow xs ys f.second_label f.second_span m.second h k.second;
+  second = HoldsSecond-grow xs ys f.has_second_label f.second_label f.second_span m.second h
+      k.second;
   suggestion =
       HoldsSuggestion-grow xs ys f.suggestion f.suggestion_span f.suggestion_text m.suggestion h
       k.suggestion;

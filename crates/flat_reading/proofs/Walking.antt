@@ -1,7 +1,7 @@
 -- The loop over the calls: the records written so far, and those left to write.
 use Rattle.std.proofs.Common.{◌≡◌, ◌≢◌, ℕ, zero, suc, ◌+◌, ◌<◌, ◌≤◌, ◌++◌, ◌⊎◌, inl, inr, Bool}
 use Rattle.std.proofs.Common.{true, false, cond, List, [], ◌∷◌, Option, Some, None}
-use Rattle.std.proofs.Common.{length, map, take, drop, set, sum_by, refl, sym, ap, ◌∙◌}
+use Rattle.std.proofs.Common.{length, map, take, drop, set, refl, sym, ap, ◌∙◌}
 use Rattle.std.proofs.Common.{append_assoc, arith, add-one, length-set}
 use Rattle.std.specs.Prelude.{◌&&◌, if◌then◌else◌, option_map}
 use Rattle.std.proofs.lemmas.List.{map-append, take_more_set, take_all}
@@ -209,11 +209,13 @@ kept_put input e old new orig specs count used added h = by_room (cases_lt count
 pub described : (peeks : Bool) (input : List ℕ) (specs : List SpecRecord) (r : Step) (s t : State)
     → t ≡ state_after s (next_call s) →
     piece_meant input (spec_at input specs r.spec) r
-    ≡ option_map (piece_in s.world) (next_call s).piece → maybe_place r.place
+    ≡ option_map (piece_in s.world) (next_call s).piece → maybe_place r.has_place r.place
     ≡ closed_in s.world (next_call s).closes →
     r.offset ≡ position t.input t.rest → r.next_index ≡ t.next → r.lines ≡ length t.line_spans
-    → maybe_place r.peek ≡ looked_for_place peeks (place_of_first t t.rest) →
-    maybe_place r.peek_ahead ≡ looked_for_place peeks (place_of_first t (after_first t.rest))
+    → maybe_place r.peeks.has_peek r.peeks.peek
+    ≡ looked_for_place peeks (place_of_first t t.rest) →
+    maybe_place r.peeks.has_peek_ahead r.peeks.peek_ahead
+    ≡ looked_for_place peeks (place_of_first t (after_first t.rest))
     → step_meant input specs r ≡ event peeks s
 described peeks input specs r s t state piece place read next lines peek ahead =
     rw (piece, place, read, next, lines, peek, ahead, state) refl
@@ -253,9 +255,11 @@ no_piece input spec r e = rw e refl
 
 pub report_end : (peeks : Bool) (input : List ℕ) (specs : List SpecRecord) (r : Step) (s t : State)
     → t ≡ state_after s (next_call s) → s.rest ≡ [] →
-    piece_meant input (spec_at input specs r.spec) r ≡ None → maybe_place r.place ≡ None
+    piece_meant input (spec_at input specs r.spec) r ≡ None
+    → maybe_place r.has_place r.place ≡ None
     → r.offset ≡ position t.input t.rest → r.next_index ≡ t.next →
-    r.lines ≡ length t.line_spans → maybe_place r.peek ≡ None → maybe_place r.peek_ahead ≡ None
+    r.lines ≡ length t.line_spans → maybe_place r.peeks.has_peek r.peeks.peek ≡ None
+    → maybe_place r.peeks.has_peek_ahead r.peeks.peek_ahead ≡ None
     → step_meant input specs r ≡ event peeks s
 report_end peeks input specs r s t state e piece place read next lines peek ahead =
     let none : t.rest ≡ [] = ap (λ (u : State). u.rest) (state ∙ (at_end s e).1) ∙ e in

@@ -6,7 +6,6 @@ use Rattle.rustc_parse_format.specs.Faults.{RemoveRawIdent, ReorderFormatParamet
 use Rattle.rustc_parse_format.specs.Faults.{UseRustDebugPrintingMacro}
 use Rattle.rustc_parse_format.specs.World.{Place}
 use Rattle.flat_reading.specs.declared.records.Extent.{Extent}
-use Rattle.flat_reading.specs.declared.records.MaybeExtent.{MaybeExtent}
 use Rattle.flat_reading.specs.declared.records.Fault.{Fault}
 use Rattle.flat_reading.specs.Meaning.{place}
 
@@ -15,15 +14,16 @@ pub record Holds (texts : List ℕ) (start end : ℕ) (text : List ℕ) : Type 0
   pub within : end ≤ length texts
   pub same : slice_range texts start end ≡ text
 
--- The range holds the text, or both are absent.
-abbrev pub HoldsMaybe : List ℕ → MaybeExtent → Option (List ℕ) → Type 0
-HoldsMaybe texts r None = r.is_present ≡ 0
-HoldsMaybe texts r (Some t) = (r.is_present ≡ 1) × Holds texts r.start r.end t
+-- The number is 1 and the range holds the text, or it is 0 and the text is absent.
+abbrev pub HoldsMaybe : List ℕ → ℕ → Extent → Option (List ℕ) → Type 0
+HoldsMaybe texts has r None = has ≡ 0
+HoldsMaybe texts has r (Some t) = (has ≡ 1) × Holds texts r.start r.end t
 
--- The two ranges hold the text of a second label and its place, or there is no second label.
-abbrev pub HoldsSecond : List ℕ → MaybeExtent → Extent → Option (List ℕ × Place) → Type 0
-HoldsSecond texts r s None = r.is_present ≡ 0
-HoldsSecond texts r s (Some x) = (r.is_present ≡ 1) × Holds texts r.start r.end x.0
+-- The number is 1 and the two ranges hold the text of a second label and its place, or it is 0 and
+-- there is no second label.
+abbrev pub HoldsSecond : List ℕ → ℕ → Extent → Extent → Option (List ℕ × Place) → Type 0
+HoldsSecond texts has r s None = has ≡ 0
+HoldsSecond texts has r s (Some x) = (has ≡ 1) × Holds texts r.start r.end x.0
     × (place s ≡ x.1)
 
 -- The kind, the span and the text in a record are those of the suggestion.
@@ -39,10 +39,10 @@ HoldsSuggestion texts kind span text UseRustDebugPrintingMacro = kind ≡ 5
 -- The record is the flat form of the error.
 pub record HoldsError (texts : List ℕ) (f : Fault) (m : Message Place) : Type 0 where
   pub description : Holds texts f.description.start f.description.end m.description
-  pub note : HoldsMaybe texts f.note m.note
+  pub note : HoldsMaybe texts f.has_note f.note m.note
   pub label : Holds texts f.label.start f.label.end m.label
   pub span : place f.span ≡ m.span
-  pub second : HoldsSecond texts f.second_label f.second_span m.second
+  pub second : HoldsSecond texts f.has_second_label f.second_label f.second_span m.second
   pub suggestion : HoldsSuggestion texts f.suggestion f.suggestion_span f.suggestion_text
       m.suggestion
 

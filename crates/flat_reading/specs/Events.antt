@@ -165,10 +165,10 @@ spec_count s = sum_by (λ (t : State). specs_in (given_piece t)) (states s)
 abbrev pub step_meant : List ℕ → List SpecRecord → Step → Event
 step_meant input specs r = record {
   piece = piece_meant input (spec_at input specs r.spec) r;
-  place = maybe_place r.place;
+  place = maybe_place r.has_place r.place;
   offset = r.offset;
   next_index = r.next_index;
   lines = r.lines;
-  peek = maybe_place r.peek;
-  peek_ahead = maybe_place r.peek_ahead;
+  peek = maybe_place r.peeks.has_peek r.peeks.peek;
+  peek_ahead = maybe_place r.peeks.has_peek_ahead r.peeks.peek_ahead;
 }

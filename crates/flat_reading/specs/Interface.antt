@@ -82,8 +82,9 @@ pub record IsCounted (wants_peeks : Bool) (s : State) (a : Answer) : Type 0 wher
   pub lines : a.lines ≡ length (end_of s).line_spans
   pub front_count : a.front_faults ≡ fronts_of s
   pub source : is_set a.is_source_literal ≡ s.world.has_source
-  pub peek : maybe_place a.peek ≡ looked_for_place wants_peeks (place_of_first s s.rest)
-  pub peek_ahead : maybe_place a.peek_ahead
+  pub peek : maybe_place a.peeks.has_peek a.peeks.peek
+      ≡ looked_for_place wants_peeks (place_of_first s s.rest)
+  pub peek_ahead : maybe_place a.peeks.has_peek_ahead a.peeks.peek_ahead
       ≡ looked_for_place wants_peeks (place_of_first s (after_first s.rest))
 
 -- The records describe all calls from the state s on, up to the end, and the errors and the lines

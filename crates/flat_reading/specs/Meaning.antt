@@ -11,7 +11,6 @@ use Rattle.rustc_parse_format.specs.Types.{Count, Is, Name, Param, Star, Implied
 use Rattle.rustc_parse_format.specs.Types.{Piece, Lit, NextArgument, default_spec}
 use Rattle.rustc_parse_format.specs.World.{Place}
 use Rattle.flat_reading.specs.declared.records.Extent.{Extent}
-use Rattle.flat_reading.specs.declared.records.MaybeExtent.{MaybeExtent}
 use Rattle.flat_reading.specs.declared.records.CountRecord.{CountRecord}
 use Rattle.flat_reading.specs.declared.records.Spec.{Spec as SpecRecord}
 use Rattle.flat_reading.specs.declared.records.Step.{Step}
@@ -45,9 +44,9 @@ run_at input read r = if r.end == read then text_at input r else no_text
 abbrev pub is_set : ℕ → Bool
 is_set n = not (n == 0)
 
--- The place that an optional range means. None if it is absent.
-abbrev pub maybe_place : MaybeExtent → Option Place
-maybe_place r = if r.is_present == 0 then None else Some (r.start, r.end)
+-- The place that a range means if the number before it means true, and otherwise None.
+abbrev pub maybe_place : ℕ → Extent → Option Place
+maybe_place has r = if has == 0 then None else Some (r.start, r.end)
 
 -- The fill that a number stands for: the character with this code, or None for 1114112.
 abbrev pub fill_meant : ℕ → Option ℕ
@@ -96,18 +95,18 @@ is_listed s = nat_lt s.align 4 && (nat_lt s.sign 3 && nat_lt s.debug_hex 3)
 unfoldable pub spec_meant : List ℕ → SpecRecord → Spec Place
 spec_meant input s = record {
   fill = if is_listed s then fill_meant s.fill else no_fill;
-  fill_span = maybe_place s.fill_span;
+  fill_span = maybe_place s.has_fill_span s.fill_span;
   align = align_meant s.align;
   sign = sign_meant s.sign;
   alternate = is_set s.alternate;
   zero_pad = is_set s.zero_pad;
   debug_hex = hex_meant s.debug_hex;
   width = count_meant input s.width;
-  width_span = maybe_place s.width_span;
+  width_span = maybe_place s.has_width_span s.width_span;
   precision = count_meant input s.precision;
-  precision_span = maybe_place s.precision_span;
+  precision_span = maybe_place s.has_precision_span s.precision_span;
   ty = type_meant input s.type_kind s.ty;
-  ty_span = maybe_place s.ty_span;
+  ty_span = maybe_place s.has_ty_span s.ty_span;
 }
 
 -- A specification that no placeholder has.

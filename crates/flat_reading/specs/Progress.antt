@@ -186,9 +186,8 @@ pub record IsAdded (input : List ℕ) (e : Event) (count used : ℕ) (old new : 
 -- The two steps say the same about the state after the call.
 abbrev pub SameAfter : Step → Step → Type 0
 SameAfter old new =
-    (new.place ≡ old.place) × (new.offset ≡ old.offset) × (new.next_index ≡ old.next_index)
-    × (new.lines ≡ old.lines) × (new.peek ≡ old.peek)
-    × (new.peek_ahead ≡ old.peek_ahead)
+    (new.has_place ≡ old.has_place) × (new.place ≡ old.place) × (new.offset ≡ old.offset)
+    × (new.next_index ≡ old.next_index) × (new.lines ≡ old.lines) × (new.peeks ≡ old.peeks)
 
 -- The numbers of the specifications of these steps are at most k.
 abbrev pub AllFew : ℕ → List Step → Type 0

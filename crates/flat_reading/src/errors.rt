@@ -12,11 +12,10 @@ ghost use Rattle.flat_reading.specs.ErrorRecords.{second_len};
 ghost use Rattle.flat_reading.specs.ErrorRecords.{suggestion_len, texts_len};
 
 use crate::finders::Finders;
-use crate::flat::{NO_EXTENT, NOWHERE, extent};
+use crate::flat::{NOWHERE, extent};
 use crate::records::{
     Extent, Fault, MEND_ADD_MISSING_COLON, MEND_NONE, MEND_REMOVE_RAW_IDENT,
     MEND_REORDER_FORMAT_PARAMETER, MEND_USE_POSITIONAL, MEND_USE_RUST_DEBUG_PRINTING_MACRO,
-    MaybeExtent,
 };
 use rustc_parse_format::{ParseError, Suggestion};
 use std::ops::Range;
@@ -38,33 +37,44 @@ fn put(texts: &mut [u8], size: &mut usize, text: &str) -> Extent
     Extent { start, end }
 }
 
-/// Writes a note as `put` does, if there is one, and returns its byte range there.
-fn put_note(texts: &mut [u8], size: &mut usize, note: &Option<String>) -> MaybeExtent
+/// The record of a note.
+#[derive(Clone, Copy)]
+struct NoteRecord {
+    /// 1 if there is a note, and 0 if not.
+    has_text: u8,
+    /// The byte range of the note in the buffer for texts.
+    text: Extent,
+}
+
+/// Writes a note as `put` does, if there is one, and returns its record.
+fn put_note(texts: &mut [u8], size: &mut usize, note: &Option<String>) -> NoteRecord
     requires { size.old ≤ usize.MAX }
     ensures grows { Grows texts.old texts.new size.old size.new }
     ensures counted { size.new
         ≡ min (size.old + maybe_len (option_map string_bytes note.now)) usize.MAX }
     ensures holds { size.new ≤ length texts.old
-        → HoldsMaybe (take size.new texts.new) result (option_map string_bytes note.now) }
+        → HoldsMaybe (take size.new texts.new) result.has_text result.text
+        (option_map string_bytes note.now) }
 {
     match note {
-        Some(note) => {
-            let at = put(texts, size, note.as_str());
-            MaybeExtent {
-                is_present: 1,
-                start: at.start,
-                end: at.end,
-            }
-        }
-        None => NO_EXTENT,
+        Some(note) => NoteRecord {
+            has_text: 1,
+            text: put(texts, size, note.as_str()),
+        },
+        None => NoteRecord {
+            has_text: 0,
+            text: NOWHERE,
+        },
     }
 }
 
 /// The record of a secondary label.
 #[derive(Clone, Copy)]
 struct SecondRecord {
+    /// 1 if there is a label, and 0 if not.
+    has_label: u8,
     /// The byte range of the label in the buffer for texts.
-    label: MaybeExtent,
+    label: Extent,
     /// The byte range in the source that the label is for.
     span: Extent,
 }
@@ -92,23 +102,18 @@ fn put_second(
         ≡ min (size.old + second_len (option_map (λ x. (string_bytes x.0, pair x.1)) second.now))
         usize.MAX }
     ensures holds { size.new ≤ length texts.old
-        → HoldsSecond (take size.new texts.new) result.label result.span
+        → HoldsSecond (take size.new texts.new) result.has_label result.label result.span
         (option_map (λ x. (string_bytes x.0, pair x.1)) second.now) }
 {
     match second {
-        Some((label, span)) => {
-            let at = put(texts, size, label.as_str());
-            SecondRecord {
-                label: MaybeExtent {
-                    is_present: 1,
-                    start: at.start,
-                    end: at.end,
-                },
-                span: extent(span),
-            }
-        }
+        Some((label, span)) => SecondRecord {
+            has_label: 1,
+            label: put(texts, size, label.as_str()),
+            span: extent(span),
+        },
         None => SecondRecord {
-            label: NO_EXTENT,
+            has_label: 0,
+            label: NOWHERE,
             span: NOWHERE,
         },
     }
@@ -166,13 +171,15 @@ fn put_error(texts: &mut [u8], size: &mut usize, error: &ParseError, step: usize
     let second = put_second(texts, size, &error.secondary_label);
     let suggestion = put_suggestion(texts, size, &error.suggestion);
     Fault {
+        has_note: note.has_text,
+        has_second_label: second.has_label,
+        suggestion: suggestion.kind,
         description,
-        note,
+        note: note.text,
         label,
         span: extent(&error.span),
         second_label: second.label,
         second_span: second.span,
-        suggestion: suggestion.kind,
         suggestion_span: suggestion.span,
         suggestion_text: suggestion.text,
         step,

@@ -20,9 +20,9 @@ ghost use Rattle.flat_reading.specs.Progress.{SpecAt};
 
 use crate::records::{
     ALIGN_CENTER, ALIGN_LEFT, ALIGN_RIGHT, ALIGN_UNKNOWN, COUNT_IMPLIED, COUNT_IS, COUNT_IS_NAME,
-    COUNT_IS_PARAM, COUNT_IS_STAR, CountRecord, Extent, HEX_LOWER, HEX_NONE, HEX_UPPER,
-    MaybeExtent, NO_FILL, PIECE_ARGUMENT, POSITION_IMPLICIT, POSITION_INDEX, POSITION_NAMED,
-    SIGN_MINUS, SIGN_NONE, SIGN_PLUS, Spec, Step,
+    COUNT_IS_PARAM, COUNT_IS_STAR, CountRecord, Extent, HEX_LOWER, HEX_NONE, HEX_UPPER, NO_FILL,
+    PIECE_ARGUMENT, PIECE_NONE, PIECE_TEXT, POSITION_IMPLICIT, POSITION_INDEX, POSITION_NAMED,
+    SIGN_MINUS, SIGN_NONE, SIGN_PLUS, Spec, Step, TYPE_TEXT,
 };
 use crate::texts::{Texts, argument_texts, name_extent};
 use rustc_parse_format::{Alignment, Argument, Count, DebugHex, FormatSpec, Position, Sign};
@@ -41,37 +41,22 @@ pub fn extent(range: &Range<usize>) -> Extent
     }
 }
 
-/// The record of no byte range.
-pub const NO_EXTENT: MaybeExtent = MaybeExtent {
-    is_present: 0,
-    start: 0,
-    end: 0,
-};
-
-/// Returns a byte range as a record that could hold none.
+/// Writes a byte range, or none: then the number before it is 0, and `record` stays as it is.
 #[inline(always)]
-pub fn some_extent(range: &Range<usize>) -> MaybeExtent
-    ensures { maybe_place result ≡ Some (pair range.now) }
-{
-    MaybeExtent {
-        is_present: 1,
-        start: range.start,
-        end: range.end,
-    }
-}
-
-/// Returns a byte range, or none, as a record.
-fn maybe_extent(range: &Option<Range<usize>>) -> MaybeExtent
-    ensures { maybe_place result ≡ option_map pair range.now }
+fn put_extent(range: &Option<Range<usize>>, has_range: &mut u8, record: &mut Extent)
+    ensures { maybe_place has_range.new record.new ≡ option_map pair range.now }
 {
     match range {
-        Some(range) => some_extent(range),
-        None => NO_EXTENT,
+        Some(range) => {
+            *has_range = 1;
+            *record = extent(range);
+        }
+        None => *has_range = 0,
     }
 }
 
 /// Returns 1 for true and 0 for false.
-pub fn flag(condition: bool) -> u32
+pub fn flag(condition: bool) -> u8
     ensures { is_set result ≡ condition }
 {
     if condition { 1 } else { 0 }
@@ -88,7 +73,7 @@ fn fill(fill: Option<char>) -> u32
 }
 
 /// Returns the one of `ALIGN_..` for an alignment.
-fn align(align: Alignment) -> u32
+fn align(align: Alignment) -> u8
     ensures same { align_meant result ≡ seen_alignment align }
     ensures listed { result < 4 }
 {
@@ -101,7 +86,7 @@ fn align(align: Alignment) -> u32
 }
 
 /// Returns the one of `SIGN_..` for a sign flag.
-fn sign(sign: Option<Sign>) -> u32
+fn sign(sign: Option<Sign>) -> u8
     ensures same { sign_meant result ≡ option_map seen_sign sign }
     ensures listed { result < 3 }
 {
@@ -113,7 +98,7 @@ fn sign(sign: Option<Sign>) -> u32
 }
 
 /// Returns the one of `HEX_..` for the case of hexadecimal digits.
-fn debug_hex(hex: Option<DebugHex>) -> u32
+fn debug_hex(hex: Option<DebugHex>) -> u8
     ensures same { hex_meant result ≡ option_map seen_debug_hex hex }
     ensures listed { result < 3 }
 {
@@ -124,66 +109,70 @@ fn debug_hex(hex: Option<DebugHex>) -> u32
     }
 }
 
-/// Returns the record of a count that has no name.
-fn number_record(kind: u32, number: usize) -> CountRecord
-    ensures { result ≡ record {
-      kind = kind;
-      number = number;
-      name = record { start = 0; end = 0 };
-      name_span = record { start = 0; end = 0 };
-    } }
-{
-    CountRecord {
-        kind,
-        number,
-        name: NOWHERE,
-        name_span: NOWHERE,
-    }
-}
-
-/// Returns the record of a count. `name` is the byte range of its name in the input.
+/// Writes a count over a record. `name` is the byte range of its name in the input.
 #[tactic(auto, unfolding(crate::specs::Meaning::count_meant))]
-fn count(count: &Count<'_>, name: Extent) -> CountRecord
+#[inline(always)]
+fn put_count(count: &Count<'_>, name: Extent, record: &mut CountRecord)
     ensures { (input : List ℕ) → CountAt (text_at input name) (seen_count count.now)
-        → count_meant input result ≡ seen_count count.now }
+        → count_meant input record.new ≡ seen_count count.now }
 {
     match count {
-        Count::CountImplied => number_record(COUNT_IMPLIED, 0),
-        Count::CountIs(number) => number_record(COUNT_IS, usize::from(*number)),
-        Count::CountIsParam(number) => number_record(COUNT_IS_PARAM, *number),
-        Count::CountIsStar(number) => number_record(COUNT_IS_STAR, *number),
-        Count::CountIsName(_, span) => CountRecord {
-            kind: COUNT_IS_NAME,
-            number: 0,
-            name,
-            name_span: extent(span),
-        },
+        Count::CountImplied => record.kind = COUNT_IMPLIED,
+        Count::CountIs(number) => {
+            record.kind = COUNT_IS;
+            record.number = usize::from(*number);
+        }
+        Count::CountIsParam(number) => {
+            record.kind = COUNT_IS_PARAM;
+            record.number = *number;
+        }
+        Count::CountIsStar(number) => {
+            record.kind = COUNT_IS_STAR;
+            record.number = *number;
+        }
+        Count::CountIsName(_, span) => {
+            record.kind = COUNT_IS_NAME;
+            record.name = name;
+            record.name_span = extent(span);
+        }
     }
 }
 
-/// Returns the record of a specification. `texts` has the byte ranges of its texts in the input.
+/// Writes a specification over a record. `texts` has the byte ranges of its texts in the input.
 #[tactic(auto, unfolding(crate::specs::Meaning::spec_meant))]
 #[inline(always)]
-fn spec_record(spec: &FormatSpec<'_>, texts: &Texts) -> Spec
+fn put_spec(spec: &FormatSpec<'_>, texts: &Texts, record: &mut Spec)
     ensures { (input : List ℕ) → SpecAt input texts.now (seen_spec spec.now)
-        → spec_meant input result ≡ seen_spec spec.now }
+        → spec_meant input record.new ≡ seen_spec spec.now }
 {
-    Spec {
-        fill: fill(spec.fill),
-        align: align(spec.align),
-        sign: sign(spec.sign),
-        debug_hex: debug_hex(spec.debug_hex),
-        alternate: flag(spec.alternate),
-        zero_pad: flag(spec.zero_pad),
-        type_kind: texts.type_kind,
-        width: count(&spec.width, texts.width),
-        precision: count(&spec.precision, texts.precision),
-        ty: texts.ty,
-        fill_span: maybe_extent(&spec.fill_span),
-        width_span: maybe_extent(&spec.width_span),
-        precision_span: maybe_extent(&spec.precision_span),
-        ty_span: maybe_extent(&spec.ty_span),
+    record.fill = fill(spec.fill);
+    record.align = align(spec.align);
+    record.sign = sign(spec.sign);
+    record.debug_hex = debug_hex(spec.debug_hex);
+    record.alternate = flag(spec.alternate);
+    record.zero_pad = flag(spec.zero_pad);
+    record.type_kind = texts.type_kind;
+    put_count(&spec.width, texts.width, &mut record.width);
+    put_count(&spec.precision, texts.precision, &mut record.precision);
+    if texts.type_kind == TYPE_TEXT {
+        record.ty = texts.ty;
     }
+    put_extent(
+        &spec.fill_span,
+        &mut record.has_fill_span,
+        &mut record.fill_span,
+    );
+    put_extent(
+        &spec.width_span,
+        &mut record.has_width_span,
+        &mut record.width_span,
+    );
+    put_extent(
+        &spec.precision_span,
+        &mut record.has_precision_span,
+        &mut record.precision_span,
+    );
+    put_extent(&spec.ty_span, &mut record.has_ty_span, &mut record.ty_span);
 }
 
 /// Returns whether a specification has no fill, alignment or flag.
@@ -272,47 +261,112 @@ impl<'a> SpecBuffer<'a> {
         ensures adds { Adds 1 self.old self.new }
     {
         if self.count < self.records.len() {
-            self.records[self.count] = spec_record(spec, texts);
+            put_spec(spec, texts, &mut self.records[self.count]);
         }
         self.count += 1;
         self.count
     }
+}
 
-    /// Adds a specification unless it is the default one. Returns its number, from 1, or 0 for the
-    /// default one.
-    #[inline(always)]
-    fn put(&mut self, spec: &FormatSpec<'_>, texts: &Texts) -> usize
-        requires room { self.old.count < usize.MAX }
-        ensures described { (input : List ℕ) → SpecAt input texts.now (seen_spec spec.now)
-            → self.new.count ≤ length self.old.records.now
-            → spec_at input self.new.records.now result ≡ seen_spec spec.now }
-        ensures number { result ≤ self.new.count }
-        ensures adds { Adds (if is_default (seen_spec spec.now) then 0 else 1) self.old self.new }
-    {
-        if is_default(spec) {
-            return no_spec(spec);
+/// Writes the position of an argument into its step. `text` is the byte range of its name in the
+/// input.
+#[inline(always)]
+fn put_position(position: &Position<'_>, text: Extent, step: &mut Step)
+    ensures described { (input : List ℕ)
+        → PositionAt (text_at input text) (seen_position position.now)
+        → position_meant input step.new.position step.new.number step.new.text
+        ≡ seen_position position.now }
+    ensures kind { step.new.kind ≡ step.old.kind }
+    ensures others { SameAfter step.old step.new }
+{
+    match position {
+        Position::ArgumentImplicitlyIs(number) => {
+            step.position = POSITION_IMPLICIT;
+            step.number = *number;
         }
-        self.add(spec, texts)
+        Position::ArgumentIs(number) => {
+            step.position = POSITION_INDEX;
+            step.number = *number;
+        }
+        Position::ArgumentNamed(_) => {
+            step.position = POSITION_NAMED;
+            step.text = text;
+        }
     }
 }
 
-/// Returns the kind of a position, which is one of `POSITION_..`, and its index, or 0 for a name.
+/// Writes into a step that the call returned no piece.
 #[inline(always)]
-fn position(position: &Position<'_>) -> (u32, usize)
-    ensures { (input : List ℕ) (r : ExtentRecord)
-        → PositionAt (text_at input r) (seen_position position.now)
-        → position_meant input result.0 result.1 r ≡ seen_position position.now }
+pub fn put_no_piece(step: &mut Step)
+    ensures kind { step.new.kind ≡ 0 }
+    ensures spec { step.new.spec ≡ 0 }
+    ensures others { SameAfter step.old step.new }
 {
-    match position {
-        Position::ArgumentImplicitlyIs(number) => (POSITION_IMPLICIT, *number),
-        Position::ArgumentIs(number) => (POSITION_INDEX, *number),
-        Position::ArgumentNamed(_) => (POSITION_NAMED, 0),
-    }
+    step.kind = PIECE_NONE;
+    step.spec = 0;
+}
+
+/// Writes a run of text into its step. `text` is its byte range in the input.
+#[inline(always)]
+pub fn put_text(text: Extent, step: &mut Step)
+    ensures kind { step.new.kind ≡ 1 }
+    ensures text { step.new.text ≡ text }
+    ensures spec { step.new.spec ≡ 0 }
+    ensures others { SameAfter step.old step.new }
+{
+    step.kind = PIECE_TEXT;
+    step.text = text;
+    step.spec = 0;
+}
+
+/// Writes an argument with the default specification into its step. `text` is the byte range of its
+/// name in the input.
+#[tactic(auto, unfolding(crate::specs::Meaning::piece_meant))]
+#[inline(always)]
+fn put_bare_argument(argument: &Argument<'_>, text: Extent, step: &mut Step)
+    requires bare { is_default (seen_spec argument.now.format) ≡ true }
+    ensures described { (input : List ℕ) (specs : List SpecRecord)
+        → PositionAt (text_at input text) (seen_position argument.now.position)
+        → piece_meant input (spec_at input specs step.new.spec) step.new
+        ≡ Some (NextArgument (seen_argument argument.now)) }
+    ensures spec { step.new.spec ≡ 0 }
+    ensures others { SameAfter step.old step.new }
+{
+    step.kind = PIECE_ARGUMENT;
+    put_position(&argument.position, text, step);
+    step.position_span = extent(&argument.position_span);
+    step.spec = no_spec(&argument.format);
+}
+
+/// Writes an argument into its step, and adds its specification, which is not the default one.
+/// `texts` has the byte ranges of its texts in the input.
+#[tactic(auto, unfolding(crate::specs::Meaning::piece_meant))]
+#[inline(always)]
+fn put_full_argument(
+    argument: &Argument<'_>,
+    texts: &Texts,
+    specs: &mut SpecBuffer<'_>,
+    step: &mut Step,
+)
+    requires room { specs.old.count < usize.MAX }
+    ensures described { (input : List ℕ)
+        → PositionAt (text_at input texts.now.text) (seen_position argument.now.position)
+        → SpecAt input texts.now (seen_spec argument.now.format) → specs.new.count
+        ≤ length specs.old.records.now
+        → piece_meant input (spec_at input specs.new.records.now step.new.spec) step.new
+        ≡ Some (NextArgument (seen_argument argument.now)) }
+    ensures number { step.new.spec ≤ specs.new.count }
+    ensures adds { Adds 1 specs.old specs.new }
+    ensures others { SameAfter step.old step.new }
+{
+    step.kind = PIECE_ARGUMENT;
+    put_position(&argument.position, texts.text, step);
+    step.position_span = extent(&argument.position_span);
+    step.spec = specs.add(&argument.format, texts);
 }
 
 /// Writes an argument into its step, and adds its specification unless that is the default one.
 /// `texts` has the byte ranges of its texts in the input.
-#[tactic(auto, unfolding(crate::specs::Meaning::piece_meant))]
 #[inline(always)]
 pub fn put_argument(
     argument: &Argument<'_>,
@@ -332,58 +386,17 @@ pub fn put_argument(
         then 0 else 1) specs.old specs.new }
     ensures others { SameAfter step.old step.new }
 {
-    let (position, number) = position(&argument.position);
-    step.kind = PIECE_ARGUMENT;
-    step.position = position;
-    step.number = number;
-    step.text = texts.text;
-    step.position_span = extent(&argument.position_span);
-    step.spec = specs.put(&argument.format, texts);
+    if is_default(&argument.format) {
+        put_bare_argument(argument, texts.text, step);
+    } else {
+        put_full_argument(argument, texts, specs, step);
+    }
 }
 
-/// Writes a piece that is no argument into its step: its kind, and the byte range of its text in
-/// the input.
-#[inline(always)]
-pub fn put_bare_piece(kind: u32, text: Extent, step: &mut Step)
-    ensures kind { step.new.kind ≡ kind }
-    ensures text { step.new.text ≡ text }
-    ensures spec { step.new.spec ≡ 0 }
-    ensures others { SameAfter step.old step.new }
-{
-    step.kind = kind;
-    step.position = POSITION_IMPLICIT;
-    step.number = 0;
-    step.text = text;
-    step.position_span = NOWHERE;
-    step.spec = 0;
-}
-
-/// Writes an argument with the default specification into its step. `text` is the byte range of its
-/// name in the input.
-#[tactic(auto, unfolding(crate::specs::Meaning::piece_meant))]
-#[inline(always)]
-fn put_bare_argument(argument: &Argument<'_>, text: Extent, step: &mut Step)
-    requires bare { is_default (seen_spec argument.now.format) ≡ true }
-    ensures described { (input : List ℕ) (specs : List SpecRecord)
-        → PositionAt (text_at input text) (seen_position argument.now.position)
-        → piece_meant input (spec_at input specs step.new.spec) step.new
-        ≡ Some (NextArgument (seen_argument argument.now)) }
-    ensures spec { step.new.spec ≡ 0 }
-    ensures others { SameAfter step.old step.new }
-{
-    let (position, number) = position(&argument.position);
-    step.kind = PIECE_ARGUMENT;
-    step.position = position;
-    step.number = number;
-    step.text = text;
-    step.position_span = extent(&argument.position_span);
-    step.spec = no_spec(&argument.format);
-}
-
-/// Writes an argument as `put_plain_argument` does, also one with a specification. It is no part of
-/// that function, which is inlined, so that other pieces take no room for what it needs.
+/// Writes an argument with a specification as `put_plain_argument` does. It is no part of that
+/// function, which is inlined, so that other pieces take no room for what it needs.
 #[inline(never)]
-fn put_full_argument(
+fn put_plain_full_argument(
     argument: &Argument<'_>,
     input: &str,
     offset: usize,
@@ -396,12 +409,11 @@ fn put_full_argument(
         → piece_meant input.now (spec_at input.now specs.new.records.now step.new.spec) step.new
         ≡ Some (NextArgument (seen_argument argument.now)) }
     ensures number { step.new.spec ≤ specs.new.count }
-    ensures adds { Adds (if is_default (seen_spec argument.now.format)
-        then 0 else 1) specs.old specs.new }
+    ensures adds { Adds 1 specs.old specs.new }
     ensures others { SameAfter step.old step.new }
 {
     let texts = argument_texts(input, offset, argument);
-    put_argument(argument, &texts, specs, step);
+    put_full_argument(argument, &texts, specs, step);
 }
 
 /// Writes an argument into its step, and adds its specification unless that is the default one.
@@ -428,6 +440,6 @@ pub fn put_plain_argument(
     if is_default(&argument.format) {
         put_bare_argument(argument, name_extent(input, offset, argument), step);
     } else {
-        put_full_argument(argument, input, offset, specs, step);
+        put_plain_full_argument(argument, input, offset, specs, step);
     }
 }

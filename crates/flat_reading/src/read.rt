@@ -10,11 +10,11 @@ ghost use Rattle.flat_reading.specs.Meaning.{place};
 ghost use Rattle.flat_reading.specs.Progress.{IsPlain};
 
 use crate::errors::put_errors;
-use crate::flat::{NO_EXTENT, SpecBuffer, flag};
+use crate::flat::{SpecBuffer, flag};
 use crate::reading::{Reading, mode_with_escapes, offset_of};
 use crate::records::{Answer, Extent, Fault, Spec, Step};
 use crate::task::Task;
-use crate::walk::{Walker, look_ahead};
+use crate::walk::{NO_PEEKS, Walker, look_ahead};
 use rustc_parse_format::{ParseMode, Parser};
 use std::alloc::{AllocError, Global};
 use std::ops::Range;
@@ -84,26 +84,26 @@ fn read_by<'a>(
     let mut walker = Walker::new(alloc, start);
     let reading = Reading::new(task.input, offset, escapes, task.wants_peeks);
     let mut specs = SpecBuffer::new(specs);
-    let mut peek = NO_EXTENT;
-    let mut peek_ahead = NO_EXTENT;
+    let mut peeks = NO_PEEKS;
     if task.wants_peeks {
-        look_ahead(&walker.parser, &mut peek, &mut peek_ahead);
+        look_ahead(&walker.parser, &mut peeks);
     }
     let count = walker.walk(&reading, steps, &mut specs)?;
     let errors = walker.parser.errors();
     let spans = walker.parser.line_spans();
     put_lines(spans, lines);
-    *answer = Answer {
-        steps: count,
-        specs: specs.count(),
-        faults: errors.len(),
-        texts: put_errors(errors, &walker.finders, faults, texts),
-        lines: spans.len(),
-        front_faults: walker.finders.front_count(),
-        is_source_literal,
-        peek,
-        peek_ahead,
-    };
+    // (field by field, since a copy of a record also copies what lies between its fields)
+    answer.steps = count;
+    answer.specs = specs.count();
+    answer.faults = errors.len();
+    answer.texts = put_errors(errors, &walker.finders, faults, texts);
+    answer.lines = spans.len();
+    answer.front_faults = walker.finders.front_count();
+    answer.is_source_literal = is_source_literal;
+    answer.peeks.has_peek = peeks.has_peek;
+    answer.peeks.has_peek_ahead = peeks.has_peek_ahead;
+    answer.peeks.peek = peeks.peek;
+    answer.peeks.peek_ahead = peeks.peek_ahead;
     Ok(())
 }
 

@@ -10,13 +10,16 @@ pub struct Extent {
     pub end: usize,
 }
 
-/// A byte range if `is_present` is not 0, and none otherwise.
+/// The byte ranges in the source of the next two characters, if they are wanted.
 #[repr(C)]
 #[derive(Clone, Copy)]
-pub struct MaybeExtent {
-    pub is_present: usize,
-    pub start: usize,
-    pub end: usize,
+pub struct Peeks {
+    /// Not 0 if there is a next character.
+    pub has_peek: u8,
+    /// Not 0 if there is a character after that.
+    pub has_peek_ahead: u8,
+    pub peek: Extent,
+    pub peek_ahead: Extent,
 }
 
 pub const MODE_FORMAT: u32 = 0;
@@ -41,26 +44,26 @@ pub struct Options {
     pub has_snippet: u32,
     /// Not 0 if a newline was appended to the input that is not in the snippet.
     pub appended_newline: u32,
-    /// Not 0 to fill in `peek` and `peek_ahead`.
+    /// Not 0 to fill in `peeks`.
     pub wants_peeks: u32,
 }
 
-pub const COUNT_IMPLIED: u32 = 0;
+pub const COUNT_IMPLIED: u8 = 0;
 
-pub const COUNT_IS: u32 = 1;
+pub const COUNT_IS: u8 = 1;
 
-pub const COUNT_IS_NAME: u32 = 2;
+pub const COUNT_IS_NAME: u8 = 2;
 
-pub const COUNT_IS_PARAM: u32 = 3;
+pub const COUNT_IS_PARAM: u8 = 3;
 
-pub const COUNT_IS_STAR: u32 = 4;
+pub const COUNT_IS_STAR: u8 = 4;
 
 /// A width or a precision.
 #[repr(C)]
 #[derive(Clone, Copy)]
 pub struct CountRecord {
     /// One of `COUNT_..`.
-    pub kind: u32,
+    pub kind: u8,
     /// The number, or the index of the argument.
     pub number: usize,
     /// The name of the argument, as a range of the input.
@@ -69,35 +72,35 @@ pub struct CountRecord {
     pub name_span: Extent,
 }
 
-pub const ALIGN_UNKNOWN: u32 = 0;
+pub const ALIGN_UNKNOWN: u8 = 0;
 
-pub const ALIGN_LEFT: u32 = 1;
+pub const ALIGN_LEFT: u8 = 1;
 
-pub const ALIGN_RIGHT: u32 = 2;
+pub const ALIGN_RIGHT: u8 = 2;
 
-pub const ALIGN_CENTER: u32 = 3;
+pub const ALIGN_CENTER: u8 = 3;
 
-pub const SIGN_NONE: u32 = 0;
+pub const SIGN_NONE: u8 = 0;
 
-pub const SIGN_PLUS: u32 = 1;
+pub const SIGN_PLUS: u8 = 1;
 
-pub const SIGN_MINUS: u32 = 2;
+pub const SIGN_MINUS: u8 = 2;
 
-pub const HEX_NONE: u32 = 0;
+pub const HEX_NONE: u8 = 0;
 
-pub const HEX_LOWER: u32 = 1;
+pub const HEX_LOWER: u8 = 1;
 
-pub const HEX_UPPER: u32 = 2;
+pub const HEX_UPPER: u8 = 2;
 
-pub const TYPE_NONE: u32 = 0;
+pub const TYPE_NONE: u8 = 0;
 
-pub const TYPE_TEXT: u32 = 1;
+pub const TYPE_TEXT: u8 = 1;
 
-pub const TYPE_LOWER_HEX: u32 = 2;
+pub const TYPE_LOWER_HEX: u8 = 2;
 
-pub const TYPE_UPPER_HEX: u32 = 3;
+pub const TYPE_UPPER_HEX: u8 = 3;
 
-pub const TYPE_DEBUG: u32 = 4;
+pub const TYPE_DEBUG: u8 = 4;
 
 /// The value of `fill` if there is no fill character: no character has this code.
 pub const NO_FILL: u32 = 0x11_0000;
@@ -109,38 +112,46 @@ pub struct Spec {
     /// The code of the fill character, or `NO_FILL`.
     pub fill: u32,
     /// One of `ALIGN_..`.
-    pub align: u32,
+    pub align: u8,
     /// One of `SIGN_..`.
-    pub sign: u32,
+    pub sign: u8,
     /// One of `HEX_..`.
-    pub debug_hex: u32,
+    pub debug_hex: u8,
     /// Not 0 if the flag `#` is written.
-    pub alternate: u32,
+    pub alternate: u8,
     /// Not 0 if the flag `0` is written.
-    pub zero_pad: u32,
+    pub zero_pad: u8,
     /// One of `TYPE_..`.
-    pub type_kind: u32,
+    pub type_kind: u8,
+    /// Not 0 if there is a `fill_span`.
+    pub has_fill_span: u8,
+    /// Not 0 if there is a `width_span`.
+    pub has_width_span: u8,
+    /// Not 0 if there is a `precision_span`.
+    pub has_precision_span: u8,
+    /// Not 0 if there is a `ty_span`.
+    pub has_ty_span: u8,
     pub width: CountRecord,
     pub precision: CountRecord,
     /// The type, as a range of the input, if `type_kind` is `TYPE_TEXT`.
     pub ty: Extent,
-    pub fill_span: MaybeExtent,
-    pub width_span: MaybeExtent,
-    pub precision_span: MaybeExtent,
-    pub ty_span: MaybeExtent,
+    pub fill_span: Extent,
+    pub width_span: Extent,
+    pub precision_span: Extent,
+    pub ty_span: Extent,
 }
 
-pub const PIECE_NONE: u32 = 0;
+pub const PIECE_NONE: u8 = 0;
 
-pub const PIECE_TEXT: u32 = 1;
+pub const PIECE_TEXT: u8 = 1;
 
-pub const PIECE_ARGUMENT: u32 = 2;
+pub const PIECE_ARGUMENT: u8 = 2;
 
-pub const POSITION_IMPLICIT: u32 = 0;
+pub const POSITION_IMPLICIT: u8 = 0;
 
-pub const POSITION_INDEX: u32 = 1;
+pub const POSITION_INDEX: u8 = 1;
 
-pub const POSITION_NAMED: u32 = 2;
+pub const POSITION_NAMED: u8 = 2;
 
 /// A call of the parser: the piece that it returned, and the state after it.
 #[repr(C)]
@@ -148,9 +159,11 @@ pub const POSITION_NAMED: u32 = 2;
 pub struct Step {
     /// One of `PIECE_..`: `PIECE_NONE` at the end of the input, and at a closing brace that closes
     /// nothing.
-    pub kind: u32,
+    pub kind: u8,
     /// For an argument, one of `POSITION_..`.
-    pub position: u32,
+    pub position: u8,
+    /// Not 0 if the call closed a placeholder; never without a source literal.
+    pub has_place: u8,
     /// The index of the argument, from 0.
     pub number: usize,
     /// The literal text, or the name of the argument, as a range of the input.
@@ -159,18 +172,16 @@ pub struct Step {
     pub position_span: Extent,
     /// The number of the specification, from 1, or 0 for the default one.
     pub spec: usize,
-    /// The byte range of the placeholder that the call closed; none without a source literal.
-    pub place: MaybeExtent,
+    /// The byte range in the source of the placeholder that the call closed.
+    pub place: Extent,
     /// The byte offset up to which the input is read after the call.
     pub offset: usize,
     /// The index of the next implicit argument after the call.
     pub next_index: usize,
     /// The number of lines after the call.
     pub lines: usize,
-    /// The byte range of the next character in the source.
-    pub peek: MaybeExtent,
-    /// The byte range in the source of the character after that.
-    pub peek_ahead: MaybeExtent,
+    /// The two characters after what the call read.
+    pub peeks: Peeks,
 }
 
 pub const MEND_NONE: u32 = 0;
@@ -190,16 +201,20 @@ pub const MEND_USE_RUST_DEBUG_PRINTING_MACRO: u32 = 5;
 #[repr(C)]
 #[derive(Clone, Copy)]
 pub struct Fault {
+    /// Not 0 if there is a `note`.
+    pub has_note: u8,
+    /// Not 0 if there is a second label.
+    pub has_second_label: u8,
+    /// One of `MEND_..`.
+    pub suggestion: u32,
     pub description: Extent,
-    pub note: MaybeExtent,
+    pub note: Extent,
     pub label: Extent,
     /// The byte range of the error in the source.
     pub span: Extent,
-    pub second_label: MaybeExtent,
+    pub second_label: Extent,
     /// The byte range in the source that the second label is for.
     pub second_span: Extent,
-    /// One of `MEND_..`.
-    pub suggestion: u32,
     /// The byte range in the source that the suggestion is about.
     pub suggestion_span: Extent,
     /// The replacement that it suggests.
@@ -222,11 +237,9 @@ pub struct Answer {
     /// the first ones of the list.
     pub front_faults: usize,
     /// Not 0 if the snippet is the source literal of the input.
-    pub is_source_literal: u32,
-    /// The byte range of the first character in the source.
-    pub peek: MaybeExtent,
-    /// The byte range of the second character in the source.
-    pub peek_ahead: MaybeExtent,
+    pub is_source_literal: u8,
+    /// The first two characters.
+    pub peeks: Peeks,
 }
 
 /// Success: all results are written.

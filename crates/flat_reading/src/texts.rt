@@ -29,7 +29,7 @@ pub struct Texts {
     /// The name of the precision.
     pub precision: Extent,
     /// One of `TYPE_..`.
-    pub type_kind: u32,
+    pub type_kind: u8,
     /// The type, if `type_kind` is `TYPE_TEXT`.
     pub ty: Extent,
 }
@@ -61,6 +61,7 @@ pub fn extent_of(input: &str, start: usize, text: &str) -> Extent
 }
 
 /// Returns whether the input has these bytes at `start`.
+#[inline(always)]
 pub fn has_bytes_at(input: &str, start: usize, bytes: &[u8]) -> bool
     ensures yes { IsTrue result → HasBytes input.now start bytes.now }
     ensures no { IsFalse result → ¬ (HasBytes input.now start bytes.now) }
@@ -76,7 +77,7 @@ pub fn has_bytes_at(input: &str, start: usize, bytes: &[u8]) -> bool
 
 /// Returns the byte range of a text that begins at `start`, or after `prefix` if the input has that
 /// at `start`.
-#[inline(never)]
+#[inline(always)]
 fn extent_after(input: &str, prefix: &[u8], start: usize, text: &str) -> Extent
     requires { StandsAfter input.now prefix.now start (chars text.now) }
     ensures { text_at input.now result ≡ chars text.now }
@@ -105,7 +106,7 @@ fn count_extent(input: &str, offset: usize, count: &Count<'_>) -> Extent
 }
 
 /// Returns the kind of a type that has no span.
-pub fn listed_type(ty: &str) -> u32
+pub fn listed_type(ty: &str) -> u8
     ensures { (r : ExtentRecord) → IsListed (chars ty.now) → (input : List ℕ)
         → type_meant input result r ≡ chars ty.now }
 {
@@ -119,7 +120,7 @@ pub fn listed_type(ty: &str) -> u32
 
 /// Returns the kind of a type, and the byte range of the type in the input.
 #[inline(always)]
-fn type_extent(input: &str, offset: usize, format: &FormatSpec<'_>) -> (u32, Extent)
+fn type_extent(input: &str, offset: usize, format: &FormatSpec<'_>) -> (u8, Extent)
     requires { TypeStands input.now offset (option_map pair format.now.ty_span)
         (chars format.now.ty.now) }
     ensures { type_meant input.now result.0 result.1 ≡ chars format.now.ty.now }
@@ -159,10 +160,11 @@ pub fn argument_texts(input: &str, offset: usize, argument: &Argument<'_>) -> Te
         (seen_position argument.now.position) }
     ensures format { SpecAt input.now result (seen_spec argument.now.format) }
 {
+    let text = name_extent(input, offset, argument);
     let format = &argument.format;
     let (type_kind, ty) = type_extent(input, offset, format);
     Texts {
-        text: name_extent(input, offset, argument),
+        text,
         width: count_extent(input, offset, &format.width),
         precision: count_extent(input, offset, &format.precision),
         type_kind,

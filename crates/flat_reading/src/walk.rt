@@ -18,17 +18,17 @@ ghost use Rattle.flat_reading.specs.Events.{given_piece, is_default, looked_for_
 ghost use Rattle.flat_reading.specs.Events.{place_of_first};
 ghost use Rattle.flat_reading.specs.Events.{position, spec_count, specs_in, states, step_meant};
 ghost use Rattle.flat_reading.specs.Meaning.{maybe_place, piece_meant, spec_at};
-ghost use Rattle.flat_reading.specs.Progress.{Adds, IsAdded, IsOnItsWay, IsReadAt, IsUpTo};
-ghost use Rattle.flat_reading.specs.Progress.{MakesCall};
+ghost use Rattle.flat_reading.specs.Progress.{Adds, IsAdded, IsOnItsWay};
+ghost use Rattle.flat_reading.specs.Progress.{IsReadAt, IsUpTo, MakesCall};
 ghost use Rattle.flat_reading.specs.Progress.{PlaceholderStands, RunStands, SameAfter};
 
 use crate::finders::Finders;
 use crate::flat::{
-    NO_EXTENT, NOWHERE, SpecBuffer, put_argument, put_bare_piece, put_plain_argument, some_extent,
+    NOWHERE, SpecBuffer, extent, put_argument, put_no_piece, put_plain_argument, put_text,
 };
 use crate::near::texts_of;
 use crate::reading::Reading;
-use crate::records::{MaybeExtent, PIECE_NONE, PIECE_TEXT, POSITION_IMPLICIT, Step};
+use crate::records::{Extent, PIECE_NONE, POSITION_IMPLICIT, Peeks, Step};
 use crate::texts::run_extent;
 use rustc_parse_format::{Argument, NextPiece, ParseMode, Parser, PieceKind};
 use std::alloc::{AllocError, Global};
@@ -41,75 +41,71 @@ const BLANK: Step = Step {
     text: NOWHERE,
     position_span: NOWHERE,
     spec: 0,
-    place: NO_EXTENT,
+    has_place: 0,
+    place: NOWHERE,
     offset: 0,
     next_index: 0,
     lines: 0,
-    peek: NO_EXTENT,
-    peek_ahead: NO_EXTENT,
+    peeks: NO_PEEKS,
 };
 
-/// Returns the byte range in the source of the character after the next one, or none.
-#[inline(always)]
-fn place_ahead(parser: &Parser<'_>) -> MaybeExtent
-    ensures { maybe_place result ≡ place_of_first parser.now (after_first parser.now.rest) }
-{
-    match parser.peek_ahead() {
-        Some((place, _, _)) => some_extent(&place),
-        None => NO_EXTENT,
-    }
-}
+/// No characters.
+pub const NO_PEEKS: Peeks = Peeks {
+    has_peek: 0,
+    has_peek_ahead: 0,
+    peek: NOWHERE,
+    peek_ahead: NOWHERE,
+};
 
-/// Writes the byte ranges in the source of the next two characters over two records of no byte
-/// range.
+/// Writes the byte ranges in the source of the next two characters where none are written.
 #[inline(never)]
-pub fn look_ahead(parser: &Parser<'_>, peek: &mut MaybeExtent, peek_ahead: &mut MaybeExtent)
-    requires { (maybe_place peek.old ≡ None) × (maybe_place peek_ahead.old ≡ None) }
-    ensures place { maybe_place peek.new ≡ place_of_first parser.now parser.now.rest }
-    ensures ahead { maybe_place peek_ahead.new
+pub fn look_ahead(parser: &Parser<'_>, peeks: &mut Peeks)
+    requires { (peeks.old.has_peek ≡ 0) × (peeks.old.has_peek_ahead ≡ 0) }
+    ensures place { maybe_place peeks.new.has_peek peeks.new.peek
+        ≡ place_of_first parser.now parser.now.rest }
+    ensures ahead { maybe_place peeks.new.has_peek_ahead peeks.new.peek_ahead
         ≡ place_of_first parser.now (after_first parser.now.rest) }
 {
     if let Some((place, _, _)) = parser.peek() {
-        *peek = some_extent(&place);
-        *peek_ahead = place_ahead(parser);
+        peeks.has_peek = 1;
+        peeks.peek = extent(&place);
+    }
+    if let Some((place, _, _)) = parser.peek_ahead() {
+        peeks.has_peek_ahead = 1;
+        peeks.peek_ahead = extent(&place);
     }
 }
 
 /// Writes the byte ranges in the source of the next two characters, or none if `wants_peeks` is
 /// false.
 #[inline(always)]
-fn put_peeks(
-    parser: &Parser<'_>,
-    wants_peeks: bool,
-    peek: &mut MaybeExtent,
-    peek_ahead: &mut MaybeExtent,
-)
-    ensures place { maybe_place peek.new
+fn put_peeks(parser: &Parser<'_>, wants_peeks: bool, peeks: &mut Peeks)
+    ensures place { maybe_place peeks.new.has_peek peeks.new.peek
         ≡ looked_for_place wants_peeks (place_of_first parser.now parser.now.rest) }
-    ensures ahead { maybe_place peek_ahead.new
+    ensures ahead { maybe_place peeks.new.has_peek_ahead peeks.new.peek_ahead
         ≡ looked_for_place wants_peeks (place_of_first parser.now (after_first parser.now.rest)) }
 {
-    *peek = NO_EXTENT;
-    *peek_ahead = NO_EXTENT;
+    peeks.has_peek = 0;
+    peeks.has_peek_ahead = 0;
     if wants_peeks {
-        look_ahead(parser, peek, peek_ahead);
+        look_ahead(parser, peeks);
     }
 }
 
-/// Returns the byte range in the source of the placeholder that a call closed, or none. `old_count`
+/// Writes the byte range in the source of the placeholder that a call closed, or none. `old_count`
 /// is the number of such ranges before the call; only a source literal has any.
 #[inline(always)]
-fn closed_place(parser: &Parser<'_>, old_count: usize) -> MaybeExtent
+fn put_closed_place(parser: &Parser<'_>, old_count: usize, has_place: &mut u8, place: &mut Extent)
     ensures { (old : List Place) (k : Option Span) → old_count ≡ length old
         → parser.now.arg_places ≡ old ++ place_list (closed_in parser.now.world k)
-        → maybe_place result ≡ closed_in parser.now.world k }
+        → maybe_place has_place.new place.new ≡ closed_in parser.now.world k }
 {
-    if !parser.is_source_literal() {
-        return NO_EXTENT;
-    }
-    match parser.arg_places().get(old_count) {
-        Some(place) => some_extent(place),
-        None => NO_EXTENT,
+    *has_place = 0;
+    if parser.is_source_literal() {
+        if let Some(closed) = parser.arg_places().get(old_count) {
+            *has_place = 1;
+            *place = extent(closed);
+        }
     }
 }
 
@@ -212,12 +208,8 @@ impl<'a> Walker<'a> {
         ensures others { OnOk result (SameAfter step.old step.new) }
     {
         match piece {
-            None => put_bare_piece(PIECE_NONE, NOWHERE, step),
-            Some(PieceKind::Lit(text)) => put_bare_piece(
-                PIECE_TEXT,
-                run_extent(step.offset, text),
-                step,
-            ),
+            None => put_no_piece(step),
+            Some(PieceKind::Lit(text)) => put_text(run_extent(step.offset, text), step),
             Some(PieceKind::NextArgument) => match reading.escapes {
                 Some(mode) => {
                     return self.put_escaped_argument(
@@ -268,13 +260,8 @@ impl<'a> Walker<'a> {
             front_errors,
         } = self.parser.next_into(argument)?;
         put_state(&self.parser, step);
-        step.place = closed_place(&self.parser, places);
-        put_peeks(
-            &self.parser,
-            reading.wants_peeks,
-            &mut step.peek,
-            &mut step.peek_ahead,
-        );
+        put_closed_place(&self.parser, places, &mut step.has_place, &mut step.place);
+        put_peeks(&self.parser, reading.wants_peeks, &mut step.peeks);
         self.finders
             .add(number, front_errors, self.parser.errors().len() - faults)?;
         self.put_piece(reading, argument, &piece, start, next, specs, step)?;
@@ -282,29 +269,30 @@ impl<'a> Walker<'a> {
     }
 
     /// Makes the call with this number, whose step does not fit. Returns the byte offset up to
-    /// which the input is then read, or `Err` if an allocation fails.
+    /// which the input is then read, or `Err` if an allocation fails. (A copy of `reading` is
+    /// passed, so that its fields stay in registers where steps fit.)
     #[cold]
     #[inline(never)]
-    fn step_unwritten(
+    fn step_without_room(
         &mut self,
-        reading: &Reading<'_>,
+        reading: Reading<'_>,
         argument: &mut Argument<'a>,
         number: usize,
         specs: &mut SpecBuffer<'_>,
     ) -> Result<usize, AllocError>
-        requires ready { IsOnItsWay reading.now self.old }
+        requires ready { IsOnItsWay reading self.old }
         requires room { specs.old.count < usize.MAX }
         ensures added { OnOk result ((full : List StepRecord) → length full ≤ number
-            → IsAdded reading.now.input.now
-            (event reading.now.wants_peeks self.old.parser) number specs.new.count full full
+            → IsAdded reading.entry.input.now
+            (event reading.entry.wants_peeks self.old.parser) number specs.new.count full full
             specs.new.records.now) }
         ensures adds { OnOk result (Adds (specs_in
             (given_piece self.old.parser)) specs.old specs.new) }
-        ensures call { OnOk result (MakesCall number reading.now self.old self.new) }
+        ensures call { OnOk result (MakesCall number reading.entry self.old self.new) }
         ensures read { IfOk result (λ n. n ≡ position self.new.parser.input self.new.parser.rest) }
     {
         let mut spare_step = BLANK;
-        self.step(reading, argument, number, specs, &mut spare_step)?;
+        self.step(&reading, argument, number, specs, &mut spare_step)?;
         Ok(spare_step.offset)
     }
 
@@ -336,9 +324,24 @@ impl<'a> Walker<'a> {
             self.step(reading, argument, number, specs, &mut steps[number])?;
             Ok(steps[number].offset)
         } else {
-            let reading_copy = *reading;
-            self.step_unwritten(&reading_copy, argument, number, specs)
+            self.step_without_room(*reading, argument, number, specs)
         }
+    }
+
+    /// Makes the call at the end of the input, with a source literal. Returns `Err` if an
+    /// allocation fails.
+    #[inline(always)]
+    fn end_literal(&mut self) -> Result<(), AllocError>
+        requires { self.old.parser.rest ≡ [] }
+        ensures state { OnOk result (self.new.parser
+            ≡ state_after self.old.parser (next_call self.old.parser)) }
+        ensures finders { OnOk result (self.new.finders ≡ self.old.finders) }
+    {
+        // (it is at the end, and where that is tested, the compiler leaves the argument out)
+        if self.parser.is_at_end() {
+            let _none = self.parser.next_into(&mut Argument::default())?;
+        }
+        Ok(())
     }
 
     /// Makes the call at the end of the input, which does nothing without a source literal. Returns
@@ -350,11 +353,9 @@ impl<'a> Walker<'a> {
             ≡ state_after self.old.parser (next_call self.old.parser)) }
         ensures finders { OnOk result (self.new.finders ≡ self.old.finders) }
     {
-        if !self.parser.is_source_literal() {
-            return Ok(());
+        if self.parser.is_source_literal() {
+            self.end_literal()?;
         }
-        let mut unused_argument = Argument::default();
-        let _none = self.parser.next_into(&mut unused_argument)?;
         Ok(())
     }
 
@@ -373,10 +374,10 @@ impl<'a> Walker<'a> {
     {
         self.end()?;
         put_state(&self.parser, step);
-        step.place = NO_EXTENT;
-        step.peek = NO_EXTENT;
-        step.peek_ahead = NO_EXTENT;
-        put_bare_piece(PIECE_NONE, NOWHERE, step);
+        step.has_place = 0;
+        step.peeks.has_peek = 0;
+        step.peeks.has_peek_ahead = 0;
+        put_no_piece(step);
         Ok(())
     }
 

@@ -263,6 +263,8 @@ impl<'input> Parser<'input> {
         ensures few { AreFew self.new.input self.new.rest self.new.rewinds }
     {
         self.steps_are_few();
+        // (before any branch, so that the compiler writes it once)
+        let start = self.reader.call_start();
         if self.reader.is_at_end() {
             self.end_line()?;
             return Ok(NextPiece {
@@ -270,7 +272,6 @@ impl<'input> Parser<'input> {
                 front_errors: 0,
             });
         }
-        let start = self.reader.call_start();
         if let Ok(piece) = self.reader.piece_into(self.mode, argument) {
             if let Ok(front_errors) = self.lists.take_over(self.alloc, &mut self.reader) {
                 self.steps_are_few();

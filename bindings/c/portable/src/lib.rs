@@ -15,7 +15,6 @@ use records::*;
 use std::ops::Range;
 
 const NOWHERE: Extent = Extent { start: 0, end: 0 };
-const NONE: MaybeExtent = MaybeExtent { is_present: 0, start: 0, end: 0 };
 /// The most bytes of an input, and the most hashes of a raw literal.
 const LIMIT: u64 = 1_000_000_000_000;
 
@@ -23,8 +22,9 @@ fn extent(range: &Range<usize>) -> Extent {
     Extent { start: range.start, end: range.end }
 }
 
-fn maybe(range: Option<&Range<usize>>) -> MaybeExtent {
-    range.map_or(NONE, |it| MaybeExtent { is_present: 1, start: it.start, end: it.end })
+/// Whether there is a range, and the range.
+fn maybe(range: Option<&Range<usize>>) -> (u8, Extent) {
+    range.map_or((0, NOWHERE), |it| (1, extent(it)))
 }
 
 /// Where a text of an input stands in it, or nowhere if it is another text.
@@ -83,6 +83,10 @@ fn spec(input: &str, format: &FormatSpec<'_>) -> Spec {
         ("X", None) => (TYPE_UPPER_HEX, NOWHERE),
         (_, None) => (TYPE_DEBUG, NOWHERE),
     };
+    let (has_fill_span, fill_span) = maybe(format.fill_span.as_ref());
+    let (has_width_span, width_span) = maybe(format.width_span.as_ref());
+    let (has_precision_span, precision_span) = maybe(format.precision_span.as_ref());
+    let (has_ty_span, ty_span) = maybe(format.ty_span.as_ref());
     Spec {
         fill: format.fill.map_or(NO_FILL, u32::from),
         align: match format.align {
@@ -104,13 +108,17 @@ fn spec(input: &str, format: &FormatSpec<'_>) -> Spec {
         alternate: format.alternate.into(),
         zero_pad: format.zero_pad.into(),
         type_kind,
+        has_fill_span,
+        has_width_span,
+        has_precision_span,
+        has_ty_span,
         width: count(input, &format.width),
         precision: count(input, &format.precision),
         ty,
-        fill_span: maybe(format.fill_span.as_ref()),
-        width_span: maybe(format.width_span.as_ref()),
-        precision_span: maybe(format.precision_span.as_ref()),
-        ty_span: maybe(format.ty_span.as_ref()),
+        fill_span,
+        width_span,
+        precision_span,
+        ty_span,
     }
 }
 
@@ -134,30 +142,25 @@ fn blank_step() -> Step {
     Step {
         kind: PIECE_NONE,
         position: POSITION_IMPLICIT,
+        has_place: 0,
         number: 0,
         text: NOWHERE,
         position_span: NOWHERE,
         spec: 0,
-        place: NONE,
+        place: NOWHERE,
         offset: 0,
         next_index: 0,
         lines: 0,
-        peek: NONE,
-        peek_ahead: NONE,
+        peeks: Peeks { has_peek: 0, has_peek_ahead: 0, peek: NOWHERE, peek_ahead: NOWHERE },
     }
 }
 
 fn fault(error: &ParseError, step: usize, texts: &mut Buffer<'_, u8>) -> Fault {
     let mut text = |text: &str| texts.push_text(text);
-    let mut maybe_text = |it: Option<&String>| {
-        it.map_or(NONE, |it| {
-            let Extent { start, end } = text(it);
-            MaybeExtent { is_present: 1, start, end }
-        })
-    };
+    let mut maybe_text = |it: Option<&String>| it.map_or((0, NOWHERE), |it| (1, text(it)));
     let second = error.secondary_label.as_ref();
-    let note = maybe_text(error.note.as_ref());
-    let second_label = maybe_text(second.map(|(label, _)| label));
+    let (has_note, note) = maybe_text(error.note.as_ref());
+    let (has_second_label, second_label) = maybe_text(second.map(|(label, _)| label));
     let (suggestion, suggestion_span, suggestion_text) = match &error.suggestion {
         Suggestion::None => (MEND_NONE, NOWHERE, NOWHERE),
         Suggestion::UsePositional => (MEND_USE_POSITIONAL, NOWHERE, NOWHERE),
@@ -171,13 +174,15 @@ fn fault(error: &ParseError, step: usize, texts: &mut Buffer<'_, u8>) -> Fault {
         }
     };
     Fault {
+        has_note,
+        has_second_label,
+        suggestion,
         description: text(&error.description),
         note,
         label: text(&error.label),
         span: extent(&error.span),
         second_label,
         second_span: second.map_or(NOWHERE, |(_, span)| extent(span)),
-        suggestion,
         suggestion_span,
         suggestion_text,
         step,
@@ -185,12 +190,12 @@ fn fault(error: &ParseError, step: usize, texts: &mut Buffer<'_, u8>) -> Fault {
 }
 
 /// The places of the next two characters, if they are wanted.
-fn peeks(parser: &Parser<'_>, options: &Options) -> (MaybeExtent, MaybeExtent) {
-    if options.wants_peeks == 0 {
-        return (NONE, NONE);
-    }
-    let [next, after_next] = [parser.peek(), parser.peek_ahead()];
-    (maybe(next.map(|it| it.0).as_ref()), maybe(after_next.map(|it| it.0).as_ref()))
+fn peeks(parser: &Parser<'_>, options: &Options) -> Peeks {
+    let is_wanted = options.wants_peeks != 0;
+    let [next, ahead] = [parser.peek(), parser.peek_ahead()].map(|it| it.filter(|_| is_wanted));
+    let (has_peek, peek) = maybe(next.map(|it| it.0).as_ref());
+    let (has_peek_ahead, peek_ahead) = maybe(ahead.map(|it| it.0).as_ref());
+    Peeks { has_peek, has_peek_ahead, peek, peek_ahead }
 }
 
 /// An input, how it is read, and its mode.
@@ -242,7 +247,7 @@ fn read(
     let newline = options.appended_newline != 0;
     let mut found = faults_of(input, style, snippet.clone(), newline, mode).into_iter();
     let mut parser = Parser::new(input, style, snippet, newline, mode);
-    let (peek, peek_ahead) = peeks(&parser, options);
+    let first_peeks = peeks(&parser, options);
     let mut steps = Buffer { room: steps, used: 0 };
     let mut specs = Buffer { room: specs, used: 0 };
     // (the last fault that goes to the front is the first one of the list)
@@ -263,14 +268,14 @@ fn read(
             Some(Piece::NextArgument(it)) => argument(input, it, &mut specs),
         };
         let closed = parser.arg_places.get(places).filter(|_| parser.is_source_literal);
-        let (peek, peek_ahead) = peeks(&parser, options);
+        let (has_place, place) = maybe(closed);
         steps.push(Step {
-            place: maybe(closed),
+            has_place,
+            place,
             offset: parser.peek().map_or(input.len(), |(_, at, _)| at),
             next_index: parser.curarg,
             lines: parser.line_spans.len(),
-            peek,
-            peek_ahead,
+            peeks: peeks(&parser, options),
             ..step
         });
         if is_end {
@@ -292,8 +297,7 @@ fn read(
         lines: lines.used,
         front_faults: fronts.len(),
         is_source_literal: parser.is_source_literal.into(),
-        peek,
-        peek_ahead,
+        peeks: first_peeks,
     };
     let fits = steps.fits() && specs.fits() && faults.fits() && texts.fits() && lines.fits();
     if fits { DONE } else { SHORT }

@@ -125,7 +125,7 @@ fn plain_end(input: &str, snippet: &Option<String>, appended_newline: bool) -> u
 
 /// Returns the byte offset at which the text of the input's source literal ends, or `None` if there
 /// is no snippet or it is not that literal.
-#[inline]
+#[inline(always)]
 fn found_end(
     input: &str,
     style: Option<usize>,

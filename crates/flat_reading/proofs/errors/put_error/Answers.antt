@@ -38,7 +38,7 @@ returns c =
               arith,
               a1,
             ))) (c.put-description.ensures.holds (omega arith)));
-        note = HoldsMaybe-grow _ _ c.put_note-note.result _
+        note = HoldsMaybe-grow _ _ c.put_note-note.result.has_text c.put_note-note.result.text _
             (after_two.front (omega (arith, a1, a2)))
             (c.put_note-note.ensures.holds (omega (arith, a1)));
         label = Holds-is _ _ _ _ _ c.as_str-2.ensures.value
@@ -49,8 +49,8 @@ returns c =
               a3,
             ))) (c.put-label.ensures.holds (omega (arith, a1, a2))));
         span = c.extent.ensures;
-        second = HoldsSecond-grow _ _ c.put_second-second.result.label
-            c.put_second-second.result.span _
+        second = HoldsSecond-grow _ _ c.put_second-second.result.has_label
+            c.put_second-second.result.label c.put_second-second.result.span _
             (after_four.front (omega (
               arith,
               a1,

@@ -27,8 +27,8 @@ walk-requires-clause-ready c =
       mode = rw (r.escapes, c.new-walker.ensures.parser) c.requires.mode;
     }
 
-pub put_errors-requires : goal.put_errors-requires
-put_errors-requires c =
+pub put_errors-answer-requires : goal.put_errors-answer-requires
+put_errors-answer-requires c =
     let s = c.new-walker.result.parser in
     let start = c.new-walker.ensures.parser ∙ c.requires.start in
     ap length c.in_ok-count.ensures.finders

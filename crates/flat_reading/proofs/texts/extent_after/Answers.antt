@@ -3,10 +3,6 @@ use Rattle.std.proofs.lemmas.Str.{encodes-chars}
 use Rattle.flat_reading.specs.Progress.{HasBytes, StandsAt, StandsAfter}
 use Rattle.flat_reading.proofs.Cuts.{has_after, has_prefix, has_text}
 use Rattle.flat_reading.proofs.texts.extent_after.Goals as goal
-use Rattle.flat_reading.proofs.texts.extent_after.Goals.{}
-use Rattle.flat_reading.proofs.texts.extent_after.Goals.{}
-use Rattle.flat_reading.proofs.texts.extent_after.Goals.{}
-use Rattle.flat_reading.proofs.texts.extent_after.Goals.{}
 use Rattle.flat_reading.proofs.texts.extent_after.Goals.{else-has_bytes_at-via-then-has_bytes_at+else-has_bytes_at-2}
 use Rattle.flat_reading.proofs.texts.extent_after.Goals.{else-has_bytes_at-via-else-has_bytes_at}
 

@@ -1,8 +1,9 @@
-use Rattle.std.proofs.Common.{◌≡◌, ◌+◌, ◌-◌, length, refl, sym, ap, ◌∙◌, arith}
+use Rattle.std.proofs.Common.{◌≡◌, ℕ, ◌+◌, ◌-◌, length, refl, sym, ap, ◌∙◌, arith}
 use Rattle.std.proofs.lemmas.List.{length-map}
 use Rattle.rustc_parse_format.specs.Views.{pair, seen_error}
 use Rattle.rustc_parse_format.specs.State.{State, next_call}
 use Rattle.flat_reading.specs.Meaning.{maybe_place}
+use Rattle.flat_reading.specs.declared.records.Peeks.{Peeks}
 use Rattle.flat_reading.proofs.Walking.{described}
 use Rattle.flat_reading.specs.Events.{fronts_in, position}
 use Rattle.flat_reading.proofs.Escaped.{read_at}
@@ -64,19 +65,21 @@ returns-clause-described c = λ room.
     let s = c.args.self.now.parser in
     let state = c.in_ok-piece.ensures.state in
     let kept = c.in_ok-put_piece.ensures.others in
-    let place = rw state at c.closed_place-step.ensures in
+    let place = rw state at c.put_closed_place.ensures in
     let t = c.next_into.new.self in
     described r.wants_peeks r.input.now c.put_piece.new.specs.records.now c.put_piece.new.step s t
     state
     (c.in_ok-put_piece.ensures.described room ∙ c.in_ok-piece.ensures.piece)
-    (ap maybe_place kept.0
+    (ap (λ (n : ℕ). maybe_place n c.put_piece.new.step.place) kept.0
+    ∙ ap (maybe_place c.put_closed_place.new.has_place) kept.1
     ∙ place s.arg_places (next_call s).closes (sym (length-map c.arg_places-places.result.now pair)
     ∙ ap length c.arg_places-places.ensures) refl)
-    (kept.1 ∙ c.put_state.ensures.offset)
-    (kept.2 ∙ c.put_state.ensures.next_index)
-    (kept.3 ∙ c.put_state.ensures.lines)
-    (ap maybe_place kept.4 ∙ c.put_peeks.ensures.place)
-    (ap maybe_place kept.5 ∙ c.put_peeks.ensures.ahead)
+    (kept.2 ∙ c.put_state.ensures.offset)
+    (kept.3 ∙ c.put_state.ensures.next_index)
+    (kept.4 ∙ c.put_state.ensures.lines)
+    (ap (λ (p : Peeks). maybe_place p.has_peek p.peek) kept.5 ∙ c.put_peeks.ensures.place)
+    (ap (λ (p : Peeks). maybe_place p.has_peek_ahead p.peek_ahead) kept.5
+    ∙ c.put_peeks.ensures.ahead)
 
 pub returns-clause-call : goal.returns-clause-call
 returns-clause-call c =
