@@ -15,6 +15,8 @@ use records::*;
 use std::ops::Range;
 
 const NOWHERE: Extent = Extent { start: 0, end: 0 };
+const NO_PEEKS: Peeks =
+    Peeks { has_peek: 0, has_peek_ahead: 0, peek: NOWHERE, peek_ahead: NOWHERE };
 /// The most bytes of an input, and the most hashes of a raw literal.
 const LIMIT: u64 = 1_000_000_000_000;
 
@@ -151,7 +153,7 @@ fn blank_step() -> Step {
         offset: 0,
         next_index: 0,
         lines: 0,
-        peeks: Peeks { has_peek: 0, has_peek_ahead: 0, peek: NOWHERE, peek_ahead: NOWHERE },
+        peeks: NO_PEEKS,
     }
 }
 
@@ -191,10 +193,11 @@ fn fault(error: &ParseError, step: usize, texts: &mut Buffer<'_, u8>) -> Fault {
 
 /// The places of the next two characters, if they are wanted.
 fn peeks(parser: &Parser<'_>, options: &Options) -> Peeks {
-    let is_wanted = options.wants_peeks != 0;
-    let [next, ahead] = [parser.peek(), parser.peek_ahead()].map(|it| it.filter(|_| is_wanted));
-    let (has_peek, peek) = maybe(next.map(|it| it.0).as_ref());
-    let (has_peek_ahead, peek_ahead) = maybe(ahead.map(|it| it.0).as_ref());
+    if options.wants_peeks == 0 {
+        return NO_PEEKS;
+    }
+    let (has_peek, peek) = maybe(parser.peek().map(|it| it.0).as_ref());
+    let (has_peek_ahead, peek_ahead) = maybe(parser.peek_ahead().map(|it| it.0).as_ref());
     Peeks { has_peek, has_peek_ahead, peek, peek_ahead }
 }
 
