@@ -33,13 +33,13 @@ typedef struct dephungo_range {
     size_t end;   /* the byte offset of its end, which is excluded */
 } dephungo_range;
 
-/* the next two characters, if wants_peeks is set; without it there are none */
-typedef struct dephungo_peeks {
+/* the next two characters before a call */
+typedef struct dephungo_peek {
     uint8_t has_peek;          /* not 0 if there is a next character */
     uint8_t has_peek_ahead;    /* not 0 if there is a character after that */
     dephungo_range peek;       /* the byte range of the next character in the source */
     dephungo_range peek_ahead; /* the byte range in the source of the character after that */
-} dephungo_peeks;
+} dephungo_peek;
 
 /* the kind of text that the input is, as ParseMode of rustc_parse_format */
 enum {
@@ -56,7 +56,6 @@ typedef struct dephungo_options {
     size_t hashes;             /* the number of hashes of a raw literal */
     uint32_t has_snippet;      /* not 0 if there is a snippet: the source text that the input should come from */
     uint32_t appended_newline; /* not 0 if a newline was appended to the input that is not in the snippet */
-    uint32_t wants_peeks;      /* not 0 to fill in peeks; otherwise no character is there */
 } dephungo_options;
 
 /* the kind of a width or a precision */
@@ -67,14 +66,6 @@ enum {
     DEPHUNGO_COUNT_IS_PARAM = 3, /* the value of the argument with this index */
     DEPHUNGO_COUNT_IS_STAR = 4,  /* `*`: the value of the next implicit argument, which has this index */
 };
-
-/* a width or a precision */
-typedef struct dephungo_count {
-    uint8_t kind;             /* one of the COUNT constants */
-    size_t number;            /* IS: the number; IS_PARAM and IS_STAR: the index of the argument, from 0 */
-    dephungo_range name;      /* IS_NAME: the name, as a range of the input */
-    dephungo_range name_span; /* IS_NAME: the byte range of the name in the source */
-} dephungo_count;
 
 /* the alignment of a value in its width */
 enum {
@@ -114,24 +105,30 @@ enum {
 
 /* a format specification: what a placeholder has after its colon */
 typedef struct dephungo_spec {
-    uint32_t fill;                 /* the code of the fill character, or NO_FILL */
-    uint8_t align;                 /* one of the ALIGN constants */
-    uint8_t sign;                  /* one of the SIGN constants */
-    uint8_t debug_hex;             /* one of the HEX constants */
-    uint8_t alternate;             /* not 0 if the flag `#` is written */
-    uint8_t zero_pad;              /* not 0 if the flag `0` is written */
-    uint8_t type_kind;             /* one of the TYPE constants */
-    uint8_t has_fill_span;         /* not 0 if there is a fill_span */
-    uint8_t has_width_span;        /* not 0 if there is a width_span */
-    uint8_t has_precision_span;    /* not 0 if there is a precision_span */
-    uint8_t has_type_span;         /* not 0 if there is a type_span */
-    dephungo_count width;          /* the width */
-    dephungo_count precision;      /* the precision */
-    dephungo_range type;           /* TYPE_TEXT: the type, as a range of the input */
-    dephungo_range fill_span;      /* the byte range of the fill character in the source */
-    dephungo_range width_span;     /* the byte range of the width in the source */
-    dephungo_range precision_span; /* the byte range of the precision in the source */
-    dephungo_range type_span;      /* the byte range of the type in the source */
+    uint32_t fill;                      /* the code of the fill character, or NO_FILL */
+    uint8_t align;                      /* one of the ALIGN constants */
+    uint8_t sign;                       /* one of the SIGN constants */
+    uint8_t debug_hex;                  /* one of the HEX constants */
+    uint8_t alternate;                  /* not 0 if the flag `#` is written */
+    uint8_t zero_pad;                   /* not 0 if the flag `0` is written */
+    uint8_t type_kind;                  /* one of the TYPE constants */
+    uint8_t width_kind;                 /* one of the COUNT constants */
+    uint8_t precision_kind;             /* one of the COUNT constants */
+    uint8_t has_fill_span;              /* not 0 if there is a fill_span */
+    uint8_t has_width_span;             /* not 0 if there is a width_span */
+    uint8_t has_precision_span;         /* not 0 if there is a precision_span */
+    uint8_t has_type_span;              /* not 0 if there is a type_span */
+    size_t width_number;                /* IS: the width; IS_PARAM and IS_STAR: the index of the argument that is the width, from 0 */
+    size_t precision_number;            /* the same of the precision */
+    dephungo_range width_span;          /* the byte range of the width in the source */
+    dephungo_range precision_span;      /* the byte range of the precision in the source */
+    dephungo_range type;                /* TYPE_TEXT: the type, as a range of the input */
+    dephungo_range type_span;           /* the byte range of the type in the source */
+    dephungo_range fill_span;           /* the byte range of the fill character in the source */
+    dephungo_range width_name;          /* IS_NAME: the name of the argument that is the width, as a range of the input */
+    dephungo_range width_name_span;     /* IS_NAME: the byte range of that name in the source */
+    dephungo_range precision_name;      /* IS_NAME: the name of the argument that is the precision, as a range of the input */
+    dephungo_range precision_name_span; /* IS_NAME: the byte range of that name in the source */
 } dephungo_spec;
 
 /* the kind of piece that a call returned */
@@ -161,7 +158,6 @@ typedef struct dephungo_step {
     size_t offset;                /* the byte offset in the input up to which it is read after the call */
     size_t next_index;            /* the index of the next implicit argument after the call */
     size_t lines;                 /* the number of lines after the call */
-    dephungo_peeks peeks;         /* the two characters after what the call read */
 } dephungo_step;
 
 /* the suggestion of a fault, as Suggestion of rustc_parse_format */
@@ -190,7 +186,7 @@ typedef struct dephungo_fault {
     size_t step;                    /* the index, from 0, of the step that found it */
 } dephungo_fault;
 
-/* the lengths of the results, even if they do not fit, and the state before the first call */
+/* the lengths of the results, even if they do not fit */
 typedef struct dephungo_answer {
     size_t steps;              /* the number of steps; the last one is the call at the end of the input */
     size_t specs;              /* the number of specifications, in the order of the steps that have them */
@@ -199,8 +195,24 @@ typedef struct dephungo_answer {
     size_t lines;              /* the number of lines of a source literal, each without its newline and its indent */
     size_t front_faults;       /* the number of faults that were put at the front of the list when found: they come first */
     uint8_t is_source_literal; /* not 0 if the snippet is the source literal of the input */
-    dephungo_peeks peeks;      /* the first two characters */
 } dephungo_answer;
+
+/* the buffers that get the results, each with its room in records or, for texts, in bytes; no pointer may be null, even if its
+ * room is 0 */
+typedef struct dephungo_buffers {
+    dephungo_step *steps;   /* the calls of the parser, in order */
+    size_t step_room;
+    dephungo_spec *specs;   /* the specifications that the steps refer to */
+    size_t spec_room;
+    dephungo_fault *faults; /* the errors in the input */
+    size_t fault_room;
+    uint8_t *texts;         /* the texts of the faults, in UTF-8 */
+    size_t text_room;
+    dephungo_range *lines;  /* the byte ranges of the lines in the source */
+    size_t line_room;
+    dephungo_peek *peeks;   /* for each step, the two characters that come next before its call; with the room 0, none are looked for */
+    size_t peek_room;
+} dephungo_buffers;
 
 /* the return values of dephungo_read */
 enum {
@@ -218,24 +230,16 @@ enum {
  * snippet:  the source text in UTF-8; ignored if has_snippet is 0: then pass any pointer but NULL,
  *           such as that of the input, and the length 0
  * options:  how to read the input
- * steps:    the calls of the parser, in order
- * specs:    the specifications that the steps refer to
- * faults:   the errors in the input
- * texts:    the texts of the faults, in UTF-8
- * lines:    the byte ranges of the lines in the source
- * answer:   the lengths of the five results above, and the state before the first call
+ * buffers:  where the results are written; this record itself is only read, so it may be used again
+ * answer:   the lengths of the results
  *
- * A length or a room is a number of bytes or of records. No pointer may be null, even if its length
- * or room is 0, and what the call writes may not overlap anything else. */
+ * No pointer may be null, even if its length or room is 0, and what the call writes may not overlap
+ * anything else. */
 uint32_t dephungo_read(
     const uint8_t *input, size_t input_length,
     const uint8_t *snippet, size_t snippet_length,
     const dephungo_options *options,
-    dephungo_step *steps, size_t step_room,
-    dephungo_spec *specs, size_t spec_room,
-    dephungo_fault *faults, size_t fault_room,
-    uint8_t *texts, size_t text_room,
-    dephungo_range *lines, size_t line_room,
+    dephungo_buffers *buffers,
     dephungo_answer *answer);
 
 #ifdef __cplusplus

@@ -5,7 +5,8 @@
 #include <stdio.h>
 #include <stdlib.h>
 
-static const size_t bytes_of[BUFFERS] = {sizeof(dephungo_step), sizeof(dephungo_spec), sizeof(dephungo_fault), 1, sizeof(dephungo_range)};
+static const size_t bytes_of[BUFFERS] = {sizeof(dephungo_step), sizeof(dephungo_spec),  sizeof(dephungo_fault), 1,
+                                         sizeof(dephungo_range), sizeof(dephungo_peek)};
 
 /* Blocks of so many records each, filled with a byte. An empty one is still a block. */
 static void make(void *buffers[BUFFERS], const size_t rooms[BUFFERS]) {
@@ -37,17 +38,15 @@ static int answers(const row *r, const size_t rooms[BUFFERS], int less, uint32_t
 
 /* The same in each field; what lies between fields may be anything. */
 static int are_same(const dephungo_answer *a, const dephungo_answer *b) {
-    const dephungo_peeks *p = &a->peeks, *q = &b->peeks;
-    return memcmp(a, b, offsetof(dephungo_answer, is_source_literal)) == 0 && a->is_source_literal == b->is_source_literal &&
-           p->has_peek == q->has_peek && memcmp(&p->peek, &q->peek, sizeof p->peek) == 0 &&
-           p->has_peek_ahead == q->has_peek_ahead && memcmp(&p->peek_ahead, &q->peek_ahead, sizeof p->peek_ahead) == 0;
+    return memcmp(a, b, offsetof(dephungo_answer, is_source_literal)) == 0 && a->is_source_literal == b->is_source_literal;
 }
 
 static int holds(const row *r) {
     size_t none[BUFFERS] = {0};
     dephungo_answer needed, answer;
     if (!answers(r, none, BUFFERS, DEPHUNGO_SHORT, &needed)) return 0;
-    const size_t rooms[BUFFERS] = {needed.steps, needed.specs, needed.faults, needed.texts, needed.lines};
+    const size_t rooms[BUFFERS] = {needed.steps, needed.specs, needed.faults, needed.texts, needed.lines,
+                                   r->wants_peeks ? needed.steps : 0};
     int is_right = answers(r, rooms, BUFFERS, DEPHUNGO_DONE, &answer) && are_same(&answer, &needed);
     for (int b = 0; b < BUFFERS; b++) {
         if (rooms[b] == 0) continue;

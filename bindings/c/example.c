@@ -11,9 +11,17 @@ int main(int argc, char **argv) {
     dephungo_fault faults[16];
     uint8_t texts[4096];
     dephungo_range lines[1]; /* without a snippet there are no lines */
+    dephungo_peek peeks[1];  /* with the room 0, none are written */
+    dephungo_buffers buffers = {
+        .steps = steps, .step_room = 64,
+        .specs = specs, .spec_room = 32,
+        .faults = faults, .fault_room = 16,
+        .texts = texts, .text_room = sizeof texts,
+        .lines = lines, .line_room = 1,
+        .peeks = peeks, .peek_room = 0,
+    };
     dephungo_answer answer;
-    uint32_t code = dephungo_read((const uint8_t *)input, strlen(input), (const uint8_t *)"", 0, &options, steps, 64,
-                                  specs, 32, faults, 16, texts, sizeof texts, lines, 1, &answer);
+    uint32_t code = dephungo_read((const uint8_t *)input, strlen(input), (const uint8_t *)"", 0, &options, &buffers, &answer);
     if (code == DEPHUNGO_SHORT) fprintf(stderr, "%zu steps and %zu faults are too many here\n", answer.steps, answer.faults);
     if (code != DEPHUNGO_DONE) return fprintf(stderr, "code %u\n", (unsigned)code), 2;
     for (size_t i = 0; i < answer.steps; i++) {
@@ -27,7 +35,7 @@ int main(int argc, char **argv) {
         } else {
             printf("argument %zu", s->number);
         }
-        if (s->spec && specs[s->spec - 1].width.kind == DEPHUNGO_COUNT_IS) printf(" width %zu", specs[s->spec - 1].width.number);
+        if (s->spec && specs[s->spec - 1].width_kind == DEPHUNGO_COUNT_IS) printf(" width %zu", specs[s->spec - 1].width_number);
         printf(" at %zu..%zu\n", s->position_span.start, s->position_span.end);
     }
     for (size_t i = 0; i < answer.faults; i++) {

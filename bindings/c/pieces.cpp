@@ -25,6 +25,7 @@ Reading read(const std::string &input) {
     const auto text = reinterpret_cast<const std::uint8_t *>(input.data());
     dephungo_options options{};
     options.mode = DEPHUNGO_MODE_FORMAT;
+    dephungo_peek none;
     std::size_t room[5] = {1, 1, 1, 1, 1};
     for (int call = 0; call < 2 && it.code == DEPHUNGO_SHORT; call++) {
         it.steps.resize(room[0]);
@@ -32,11 +33,11 @@ Reading read(const std::string &input) {
         it.faults.resize(room[2]);
         it.texts.resize(room[3]);
         it.lines.resize(room[4]);
+        const auto texts = reinterpret_cast<std::uint8_t *>(&it.texts[0]);
+        dephungo_buffers buffers = {it.steps.data(), room[0], it.specs.data(), room[1], it.faults.data(), room[2],
+                                    texts,           room[3], it.lines.data(), room[4], &none,            0};
         // (there is no snippet: its pointer may be any that is not null)
-        it.code = dephungo_read(text, input.size(), text, 0, &options, it.steps.data(), room[0], it.specs.data(),
-                                room[1], it.faults.data(), room[2],
-                                reinterpret_cast<std::uint8_t *>(&it.texts[0]), room[3], it.lines.data(), room[4],
-                                &it.answer);
+        it.code = dephungo_read(text, input.size(), text, 0, &options, &buffers, &it.answer);
         const std::size_t needed[5] = {it.answer.steps, it.answer.specs, it.answer.faults, it.answer.texts,
                                        it.answer.lines};
         for (int at = 0; at < 5; at++) room[at] = needed[at] > room[at] ? needed[at] : room[at];
@@ -65,8 +66,8 @@ int main(int argc, char **argv) {
             } else {
                 std::cout << step.number;
             }
-            if (step.spec && found.specs[step.spec - 1].width.kind == DEPHUNGO_COUNT_IS) {
-                std::cout << " width " << found.specs[step.spec - 1].width.number;
+            if (step.spec && found.specs[step.spec - 1].width_kind == DEPHUNGO_COUNT_IS) {
+                std::cout << " width " << found.specs[step.spec - 1].width_number;
             }
             std::cout << " at " << step.position_span.start << ".." << step.position_span.end << '\n';
         }

@@ -34,8 +34,9 @@ static dephungo_spec specs[64];
 static dephungo_fault faults[64];
 static dephungo_range lines[64];
 static uint8_t texts[8192];
-static void *const buffers[BUFFERS] = {steps, specs, faults, texts, lines};
-static const size_t rooms[BUFFERS] = {64, 64, 64, sizeof texts, 64};
+static dephungo_peek peeks[64];
+static void *const buffers[BUFFERS] = {steps, specs, faults, texts, lines, peeks};
+static const size_t rooms[BUFFERS] = {64, 64, 64, sizeof texts, 64, 64};
 
 /* How many requests of a row were refused in turn, or -1 where a call did not do what it has to. */
 static long refuse_each(const row *r) {

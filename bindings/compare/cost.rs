@@ -71,20 +71,20 @@ mod export {
         hashes: 0,
         has_snippet: 0,
         appended_newline: 0,
-        wants_peeks: 0,
     };
     const WITH: Options = Options { has_snippet: 1, ..WITHOUT };
 
     /// Makes buffers in which each result of a row has room.
     pub fn buffers() -> Buffers {
-        Buffers::with_room(Answer {
+        let room = Answer {
             steps: 1 << 16,
             specs: 1 << 14,
             faults: 1 << 14,
             texts: 1 << 22,
             lines: 1 << 14,
             ..blank()
-        })
+        };
+        Buffers::with_room(room, 0)
     }
 
     /// The export alone, which is what is timed: its records are there, and nobody looks at them.
@@ -94,15 +94,17 @@ mod export {
             None => buffers.read(input, "", &WITHOUT),
         };
         assert_eq!(code, DONE);
-        (buffers.answer.steps, buffers.answer.faults)
+        let answer = buffers.records().answer;
+        (answer.steps, answer.faults)
     }
 
     /// The counts in its records of the walk up to its first None.
     pub fn counted(input: &str, snippet: Option<&str>, buffers: &mut Buffers) -> Counts {
         let (steps, faults) = alone(input, snippet, buffers);
         let is_end = |step: &Step| step.kind == PIECE_NONE;
-        let end = buffers.steps[..steps].iter().position(is_end).expect("an end");
-        (end, buffers.faults[..faults].iter().filter(|fault| fault.step <= end).count())
+        let records = buffers.records();
+        let end = records.steps[..steps].iter().position(is_end).expect("an end");
+        (end, records.faults[..faults].iter().filter(|fault| fault.step <= end).count())
     }
 }
 

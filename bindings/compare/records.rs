@@ -7,7 +7,7 @@ mod seen;
 
 use cases::{case, literal, same_as_its_literal, Case, Random};
 use dephungo::*;
-use library::{blank, records::*, Buffers};
+use library::{blank, records::*, Buffers, Records};
 use std::ops::Range;
 
 seen_by!(ours, dephungo);
@@ -46,13 +46,14 @@ fn piece<'a>(input: &'a str, step: &Step, specs: &[Spec], more: usize) -> Option
     Some(Piece::NextArgument(Box::new(Argument { position, position_span, format })))
 }
 
-fn count<'a>(input: &'a str, count: &CountRecord, more: usize) -> Count<'a> {
-    match count.kind {
+/// A count by its kind, its number, its name as a range of the input, and the span of that.
+fn count(input: &str, kind: u8, number: usize, [name, span]: [Extent; 2], more: usize) -> Count<'_> {
+    match kind {
         COUNT_IMPLIED => CountImplied,
-        COUNT_IS => CountIs(count.number.try_into().expect("a number of 16 bits")),
-        COUNT_IS_NAME => CountIsName(&input[range(count.name)], range(count.name_span)),
-        COUNT_IS_PARAM => CountIsParam(count.number),
-        COUNT_IS_STAR => CountIsStar(count.number.wrapping_add(more)),
+        COUNT_IS => CountIs(number.try_into().expect("a number of 16 bits")),
+        COUNT_IS_NAME => CountIsName(&input[range(name)], range(span)),
+        COUNT_IS_PARAM => CountIsParam(number),
+        COUNT_IS_STAR => CountIsStar(number.wrapping_add(more)),
         other => panic!("a count with the tag {other}"),
     }
 }
@@ -79,9 +80,21 @@ fn format_spec<'a>(input: &'a str, spec: &Spec, more: usize) -> FormatSpec<'a> {
             (HEX_LOWER, Some(DebugHex::Lower)),
             (HEX_UPPER, Some(DebugHex::Upper)),
         ]),
-        precision: count(input, &spec.precision, more),
+        precision: count(
+            input,
+            spec.precision_kind,
+            spec.precision_number,
+            [spec.precision_name, spec.precision_name_span],
+            more,
+        ),
         precision_span: maybe(spec.has_precision_span, spec.precision_span),
-        width: count(input, &spec.width, more),
+        width: count(
+            input,
+            spec.width_kind,
+            spec.width_number,
+            [spec.width_name, spec.width_name_span],
+            more,
+        ),
         width_span: maybe(spec.has_width_span, spec.width_span),
         ty: match spec.type_kind {
             TYPE_NONE => "",
@@ -127,12 +140,12 @@ fn read(case: &Case, peeks: bool) -> Buffers {
         hashes: case.style.unwrap_or(0),
         has_snippet: case.snippet.is_some().into(),
         appended_newline: case.newline.into(),
-        wants_peeks: peeks.into(),
     };
     let snippet = case.snippet.as_deref().unwrap_or("");
-    let mut buffers = Buffers::with_room(blank());
+    let mut buffers = Buffers::with_room(blank(), 0);
     assert_eq!(buffers.read(&case.input, snippet, &options), SHORT, "no room for {case:?}");
-    buffers = Buffers::with_room(buffers.answer);
+    let answer = buffers.records().answer;
+    buffers = Buffers::with_room(answer, if peeks { answer.steps } else { 0 });
     assert_eq!(buffers.read(&case.input, snippet, &options), DONE, "room for {case:?}");
     buffers
 }
@@ -142,13 +155,14 @@ fn read(case: &Case, peeks: bool) -> Buffers {
 fn compare(case: &Case, random: &mut Random) -> usize {
     same_as_its_literal(case);
     let has_peeks = random.one_in(2);
-    let Buffers { steps, specs, faults, texts, lines, answer } = read(case, has_peeks);
+    let buffers = read(case, has_peeks);
+    let Records { steps, specs, faults, texts, lines, peeks, answer } = buffers.records();
     let (fronts, backs) = faults.split_at(answer.front_faults);
     assert!(fronts.windows(2).all(|two| two[0].step >= two[1].step), "fronts of {case:?}");
     assert!(backs.windows(2).all(|two| two[0].step <= two[1].step), "backs of {case:?}");
     let mut parser = ours::parser(case);
     assert_eq!(answer.is_source_literal != 0, parser.is_source_literal, "literal of {case:?}");
-    let mut last = Step { peeks: answer.peeks, ..blank() };
+    let mut last: Step = blank();
     let (mut places, mut known_lines) = (vec![], vec![]);
     // by how much implicit numbers are higher, and from which step on faults are kept
     let (mut more, mut since) = (0, 0);
@@ -156,18 +170,21 @@ fn compare(case: &Case, random: &mut Random) -> usize {
     for number in 0..=end + 3 {
         let rest = &case.input[last.offset..];
         let mut rest = rest.char_indices().map(|(at, c)| (last.offset + at, c));
-        let Peeks { has_peek, has_peek_ahead, peek, peek_ahead } = last.peeks;
-        let told = [maybe(has_peek, peek), maybe(has_peek_ahead, peek_ahead)];
-        for (told, seen) in told.into_iter().zip([parser.peek(), parser.peek_ahead()]) {
-            let (place, next) = seen.map(|(place, at, c)| (place, (at, c))).unzip();
-            assert_eq!(rest.next(), next, "peek {number} of {case:?}");
-            assert_eq!(told, place.filter(|_| has_peeks), "peek {number} of {case:?}");
+        let seen = [parser.peek(), parser.peek_ahead()]
+            .map(|peek| peek.map(|(place, at, c)| (place, (at, c))).unzip());
+        for (_, next) in &seen {
+            assert_eq!(rest.next(), *next, "peek {number} of {case:?}");
+        }
+        if has_peeks {
+            let it = peeks[number.min(end)];
+            let told = [maybe(it.has_peek, it.peek), maybe(it.has_peek_ahead, it.peek_ahead)];
+            assert_eq!(told, seen.map(|(place, _)| place), "peek {number} of {case:?}");
         }
         assert_eq!(parser.curarg, last.next_index.wrapping_add(more), "curarg {number} of {case:?}");
         assert_eq!(parser.arg_places, places, "arg_places {number} of {case:?}");
         assert_eq!(parser.line_spans, known_lines, "line_spans {number} of {case:?}");
         let is_kept = |it: &&Fault| since <= it.step && it.step < number;
-        let told: Vec<_> = faults.iter().filter(is_kept).map(|it| error(&texts, it)).collect();
+        let told: Vec<_> = faults.iter().filter(is_kept).map(|it| error(texts, it)).collect();
         let [told, seen] = [&told, &parser.errors].map(|it| it.iter().map(ours::error));
         assert!(told.eq(seen), "errors {number} of {case:?}");
         match random.below(24) {
@@ -177,7 +194,7 @@ fn compare(case: &Case, random: &mut Random) -> usize {
             _ => {}
         }
         let step = steps[number.min(end)];
-        let pieces = [piece(&case.input, &step, &specs, more), parser.next()];
+        let pieces = [piece(&case.input, &step, specs, more), parser.next()];
         assert_eq!(pieces[0], pieces[1], "piece {number} of {case:?}");
         let texts = pieces.map(|piece| ours::places(&case.input, &piece));
         assert_eq!(texts[0], texts[1], "places of the texts of piece {number} of {case:?}");

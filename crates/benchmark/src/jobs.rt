@@ -3,10 +3,10 @@
 use crate::digest::Digest;
 use crate::inputs::literal;
 use crate::random::Random;
-use flat_reading::read::read;
+use flat_reading::read::{Buffers, read};
 use flat_reading::records::{
-    Answer, COUNT_IMPLIED, COUNT_IS_NAME, CountRecord, Extent, Fault, PIECE_ARGUMENT, PIECE_TEXT,
-    POSITION_NAMED, Peeks, Spec, Step, TYPE_TEXT,
+    Answer, COUNT_IMPLIED, COUNT_IS_NAME, Extent, Fault, PIECE_ARGUMENT, PIECE_TEXT,
+    POSITION_NAMED, Spec, Step, TYPE_TEXT,
 };
 use flat_reading::task::Task as FlatTask;
 use format_lint::run::run;
@@ -184,20 +184,6 @@ pub fn lint_each(
 
 const NO_EXTENT: Extent = Extent { start: 0, end: 0 };
 
-const NO_PEEKS: Peeks = Peeks {
-    has_peek: 0,
-    has_peek_ahead: 0,
-    peek: NO_EXTENT,
-    peek_ahead: NO_EXTENT,
-};
-
-const NO_COUNT: CountRecord = CountRecord {
-    kind: 0,
-    number: 0,
-    name: NO_EXTENT,
-    name_span: NO_EXTENT,
-};
-
 const NO_SPEC: Spec = Spec {
     fill: 0,
     align: 0,
@@ -206,17 +192,23 @@ const NO_SPEC: Spec = Spec {
     alternate: 0,
     zero_pad: 0,
     type_kind: 0,
+    width_kind: 0,
+    precision_kind: 0,
     has_fill_span: 0,
     has_width_span: 0,
     has_precision_span: 0,
     has_ty_span: 0,
-    width: NO_COUNT,
-    precision: NO_COUNT,
-    ty: NO_EXTENT,
-    fill_span: NO_EXTENT,
+    width_number: 0,
+    precision_number: 0,
     width_span: NO_EXTENT,
     precision_span: NO_EXTENT,
+    ty: NO_EXTENT,
     ty_span: NO_EXTENT,
+    fill_span: NO_EXTENT,
+    width_name: NO_EXTENT,
+    width_name_span: NO_EXTENT,
+    precision_name: NO_EXTENT,
+    precision_name_span: NO_EXTENT,
 };
 
 const NO_STEP: Step = Step {
@@ -231,7 +223,6 @@ const NO_STEP: Step = Step {
     offset: 0,
     next_index: 0,
     lines: 0,
-    peeks: NO_PEEKS,
 };
 
 const NO_FAULT: Fault = Fault {
@@ -257,29 +248,7 @@ const NO_ANSWER: Answer = Answer {
     lines: 0,
     front_faults: 0,
     is_source_literal: 0,
-    peeks: NO_PEEKS,
 };
-
-/// The buffers that a caller keeps from call to call.
-#[derive(Drop)]
-struct Buffers {
-    steps: Vec<Step>,
-    specs: Vec<Spec>,
-    faults: Vec<Fault>,
-    texts: Vec<u8>,
-    lines: Vec<Extent>,
-}
-
-/// Returns buffers that are long enough for a string of a program.
-fn make_buffers(alloc: Global) -> Result<Buffers, AllocError> {
-    Ok(Buffers {
-        steps: vec![in alloc; NO_STEP; 100]?,
-        specs: vec![in alloc; NO_SPEC; 100]?,
-        faults: vec![in alloc; NO_FAULT; 100]?,
-        texts: vec![in alloc; 0; 10_000]?,
-        lines: vec![in alloc; NO_EXTENT; 100]?,
-    })
-}
 
 /// Adds a byte range, or zeros if the record does not use it.
 fn add_extent(digest: &mut Digest, is_used: bool, extent: &Extent) {
@@ -292,10 +261,10 @@ fn add_end(digest: &mut Digest, has_range: u8, extent: &Extent) {
     digest.add_size(if has_range == 0 { 0 } else { extent.end });
 }
 
-/// Adds the number in a count, or 0 if it has none.
-fn add_number(digest: &mut Digest, count: &CountRecord) {
-    let has_number = !matches!(count.kind, COUNT_IMPLIED | COUNT_IS_NAME);
-    digest.add_size(if has_number { count.number } else { 0 });
+/// Adds the number in a count of this kind, or 0 if it has none.
+fn add_number(digest: &mut Digest, kind: u8, number: usize) {
+    let has_number = !matches!(kind, COUNT_IMPLIED | COUNT_IS_NAME);
+    digest.add_size(if has_number { number } else { 0 });
 }
 
 /// Adds the record of a step.
@@ -316,14 +285,14 @@ fn add_spec_record(digest: &mut Digest, spec: &Spec) {
     digest.add(u64::from(spec.fill));
     digest.add(u64::from(spec.align));
     add_extent(digest, spec.type_kind == TYPE_TEXT, &spec.ty);
-    add_number(digest, &spec.width);
-    add_extent(digest, spec.width.kind == COUNT_IS_NAME, &spec.width.name);
-    add_number(digest, &spec.precision);
+    add_number(digest, spec.width_kind, spec.width_number);
+    add_extent(digest, spec.width_kind == COUNT_IS_NAME, &spec.width_name);
+    add_number(digest, spec.precision_kind, spec.precision_number);
     add_end(digest, spec.has_precision_span, &spec.precision_span);
 }
 
 /// Adds the records that a call has written.
-fn add_records(digest: &mut Digest, buffers: &Buffers, answer: &Answer) {
+fn add_records(digest: &mut Digest, buffers: &Buffers<'_>, answer: &Answer) {
     digest.add_size(answer.texts);
     digest.add(u64::from(answer.is_source_literal));
     for step in buffers.steps.iter().take(answer.steps) {
@@ -346,7 +315,7 @@ fn add_records(digest: &mut Digest, buffers: &Buffers, answer: &Answer) {
 fn record(
     alloc: Global,
     literal: &str,
-    buffers: &mut Buffers,
+    buffers: &mut Buffers<'_>,
     digest: &mut Digest,
 ) -> Result<(), AllocError> {
     let Some(LiteralText { text, style }) = literal_text(alloc, literal)? else {
@@ -363,19 +332,9 @@ fn record(
         style,
         snippet: Some(literal),
         appended_newline: false,
-        wants_peeks: false,
     };
     let mut answer = NO_ANSWER;
-    read(
-        alloc,
-        task,
-        buffers.steps.as_mut_slice(),
-        buffers.specs.as_mut_slice(),
-        buffers.faults.as_mut_slice(),
-        buffers.texts.as_mut_slice(),
-        buffers.lines.as_mut_slice(),
-        &mut answer,
-    )?;
+    read(alloc, task, buffers, &mut answer)?;
     add_records(digest, buffers, &answer);
     Ok(())
 }
@@ -387,7 +346,20 @@ pub fn record_each(
     random: &mut Random,
     digest: &mut Digest,
 ) -> Result<(), AllocError> {
-    let mut buffers = make_buffers(alloc)?;
+    // (long enough for a string of a program)
+    let mut steps = vec![in alloc; NO_STEP; 100]?;
+    let mut specs = vec![in alloc; NO_SPEC; 100]?;
+    let mut faults = vec![in alloc; NO_FAULT; 100]?;
+    let mut texts = vec![in alloc; 0; 10_000]?;
+    let mut lines = vec![in alloc; NO_EXTENT; 100]?;
+    let mut buffers = Buffers {
+        steps: steps.as_mut_slice(),
+        specs: specs.as_mut_slice(),
+        faults: faults.as_mut_slice(),
+        texts: texts.as_mut_slice(),
+        lines: lines.as_mut_slice(),
+        peeks: &mut [],
+    };
     for number in 0..count {
         let literal = literal(alloc, random, number, 30)?;
         record(alloc, literal.as_str(), &mut buffers, digest)?;

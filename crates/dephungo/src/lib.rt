@@ -4,14 +4,11 @@
 
 ghost use Rattle.std.specs.Prelude.{◌≡◌, ◌<◌, IfNone, IfSome, Some};
 ghost use Rattle.rustc_parse_format.specs.Types.{Mode};
-ghost use Rattle.flat_reading.specs.Meaning.{is_set};
-ghost use Rattle.flat_reading.specs.Interface.{Fits, IsCounted, IsKept, IsDescribed};
-ghost use Rattle.flat_reading.specs.Interface.{first_state_of};
-ghost use Rattle.flat_reading.specs.Interface.{buffers};
-ghost use Rattle.flat_reading.specs.Interface.{mode_meant, refusal};
+ghost use Rattle.flat_reading.specs.Interface.{Fits, IsCounted, IsDescribed, IsKept, SameBuffers};
+ghost use Rattle.flat_reading.specs.Interface.{contents, first_state_of, mode_meant, refusal};
 
-use flat_reading::read::read;
-use flat_reading::records::{Answer, DONE, Extent, Fault, NO_MEMORY, Options, SHORT, Spec, Step};
+use flat_reading::read::{Buffers, read};
+use flat_reading::records::{Answer, DONE, NO_MEMORY, Options, SHORT};
 use flat_reading::task::task_of;
 use std::alloc::Global;
 
@@ -33,11 +30,7 @@ pub extern "C" fn dephungo_read(
     input: &[u8],
     snippet: &[u8],
     options: &Options,
-    steps: &mut [Step],
-    specs: &mut [Spec],
-    faults: &mut [Fault],
-    texts: &mut [u8],
-    lines: &mut [Extent],
+    buffers: &mut Buffers<'_>,
     answer: &mut Answer,
 ) -> u32
     // The code of an invalid input or option is returned exactly if there is one, and then nothing
@@ -45,39 +38,27 @@ pub extern "C" fn dephungo_read(
     ensures refused { IfSome (refusal input.now snippet.now options.now) (λ e. result ≡ e) }
     ensures accepted { IfNone (refusal input.now snippet.now options.now) (result < 3) }
     ensures unwritten { IfSome (refusal input.now snippet.now options.now)
-        (λ e. (answer.new ≡ answer.old)
-        × ((buffers steps.new specs.new faults.new texts.new lines.new)
-        ≡ (buffers steps.old specs.old faults.old texts.old lines.old))) }
+        (λ e. (answer.new ≡ answer.old) × (contents buffers.new ≡ contents buffers.old)) }
 
     // The answer has the lengths of all results; they are written if they fit, which the code
     // says; the records past these lengths in a buffer are unchanged.
     ensures counted { result < 2 → (m : Mode) → mode_meant options.now.mode ≡ Some m
-        → IsCounted (is_set options.now.wants_peeks)
-        (first_state_of m options.now input.now snippet.now) answer.new }
+        → IsCounted (first_state_of m options.now input.now snippet.now) answer.new }
     ensures described { result ≡ DONE → (m : Mode) → mode_meant options.now.mode ≡ Some m
-        → IsDescribed (is_set options.now.wants_peeks)
-        (first_state_of m options.now input.now snippet.now) input.now
-        (buffers steps.new specs.new faults.new texts.new lines.new) answer.new }
-    ensures done { result ≡ DONE
-        → Fits (buffers steps.old specs.old faults.old texts.old lines.old) answer.new }
-    ensures short { result ≡ SHORT
-        → ¬ (Fits (buffers steps.old specs.old faults.old texts.old lines.old) answer.new) }
-    ensures kept { result < 2
-        → IsKept answer.new (buffers steps.old specs.old faults.old texts.old lines.old)
-        (buffers steps.new specs.new faults.new texts.new lines.new) }
+        → IsDescribed (first_state_of m options.now input.now snippet.now) input.now
+        (contents buffers.new) answer.new }
+    ensures done { result ≡ DONE → Fits (contents buffers.old) answer.new }
+    ensures short { result ≡ SHORT → ¬ (Fits (contents buffers.old) answer.new) }
+    ensures kept { result < 2 → IsKept answer.new (contents buffers.old) (contents buffers.new) }
+    ensures same { SameBuffers buffers.old buffers.new }
     ensures refused_memory { result ≡ NO_MEMORY → answer.new ≡ answer.old }
 {
     let request = match task_of(input, snippet, options) {
         Ok(request) => request,
         Err(code) => return code,
     };
-    let Ok(()) = read(alloc, request, steps, specs, faults, texts, lines, answer) else {
+    let Ok(()) = read(alloc, request, buffers, answer) else {
         return NO_MEMORY;
     };
-    let fits = answer.steps <= steps.len()
-        && answer.specs <= specs.len()
-        && answer.faults <= faults.len()
-        && answer.texts <= texts.len()
-        && answer.lines <= lines.len();
-    if fits { DONE } else { SHORT }
+    if buffers.fit(answer) { DONE } else { SHORT }
 }

@@ -22,12 +22,12 @@ finders-go_as_errors = refl
 
 -- A lone closing brace gives no piece, the calls go on after it, and the one at the end is the
 -- last.
-calls-go_on : map (λ (e : Event). e.piece) (events false (start (codes "}a")))
+calls-go_on : map (λ (e : Event). e.piece) (events (start (codes "}a")))
     ≡ None ∷ Some (Lit (codes "a")) ∷ None ∷ []
 unfolding computing states start
 calls-go_on = refl
 
-calls-read_on : map (λ (e : Event). e.offset) (events false (start (codes "}a"))) ≡ 1 ∷ 2 ∷ 2 ∷ []
+calls-read_on : map (λ (e : Event). e.offset) (events (start (codes "}a"))) ≡ 1 ∷ 2 ∷ 2 ∷ []
 unfolding computing states start
 calls-read_on = refl
 
@@ -66,7 +66,6 @@ mode-is_refused : refusal [] []
       hashes = 0;
       has_snippet = 0;
       appended_newline = 0;
-      wants_peeks = 0;
     })
     ≡ Some 5
 mode-is_refused = refl

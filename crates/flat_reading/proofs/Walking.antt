@@ -7,7 +7,7 @@ use Rattle.std.specs.Prelude.{◌&&◌, if◌then◌else◌, option_map}
 use Rattle.std.proofs.lemmas.List.{map-append, take_more_set, take_all}
 use Rattle.std.proofs.lemmas.List.Sums.{sum_by-cons}
 use Rattle.std.proofs.lemmas.Bool.{cases_lt}
-use Rattle.rustc_parse_format.specs.Characters.{Text, is_nil, after_first}
+use Rattle.rustc_parse_format.specs.Characters.{Text, is_nil}
 use Rattle.rustc_parse_format.specs.Types.{Piece, Lit, NextArgument, Spec}
 use Rattle.rustc_parse_format.specs.World.{Place, piece_in}
 use Rattle.rustc_parse_format.specs.Call.{Call, call}
@@ -16,17 +16,18 @@ use Rattle.rustc_parse_format.proofs.Walking.Progress.{call-lt}
 use Rattle.rustc_parse_format.proofs.Lines.StateLines.{at_end, closed_in-none, end_faults}
 use Rattle.flat_reading.specs.declared.flat.SpecBuffer.{SpecBuffer}
 use Rattle.flat_reading.specs.declared.records.Step.{Step}
+use Rattle.flat_reading.specs.declared.records.Peek.{Peek}
 use Rattle.flat_reading.specs.declared.records.Spec.{Spec as SpecRecord}
 use Rattle.rustc_parse_format.specs.Lines.{closed_in, with_last}
 use Rattle.flat_reading.specs.Meaning.{maybe_place, piece_meant, spec_at}
 use Rattle.flat_reading.specs.Events.{Event, add_finders, event, finders_from, fronts_in}
 use Rattle.flat_reading.specs.Events.{given_piece}
-use Rattle.flat_reading.specs.Events.{place_of_first, position}
-use Rattle.flat_reading.specs.Events.{looked_for_place}
+use Rattle.flat_reading.specs.Events.{position}
+use Rattle.flat_reading.specs.Events.{lookahead, lookaheads, peek_meant}
 use Rattle.flat_reading.specs.Events.{specs_in, is_default, states, states_for}
 use Rattle.flat_reading.specs.Events.{step_meant}
 use Rattle.flat_reading.specs.ErrorRecords.{FinderList}
-use Rattle.flat_reading.specs.Progress.{Adds, AllFew, IsAdded, IsUpTo}
+use Rattle.flat_reading.specs.Progress.{Adds, AllFew, IsAdded, IsSeen, IsUpTo}
 use Rattle.flat_reading.proofs.Finding.{length-add_finders, length-after}
 use Rattle.flat_reading.proofs.Lists.{keep_more, keep_put, still_after}
 use Rattle.flat_reading.proofs.Specs.{spec_at-front}
@@ -127,19 +128,43 @@ put_length count old new r put = by_room (cases_lt count (length old))
     by_room (inl room) = ap length (put.0 room) ∙ length-set old count r
     by_room (inr full) = ap length (put.1 full)
 
-pub one_more : (peeks : Bool) (input : List ℕ) (s0 s new : State) (todo : List State)
-    (count used used' : ℕ) (found found' : FinderList) (steps steps' : List Step)
-    (specs specs' : List SpecRecord) →
-    IsUpTo peeks input s0 (s ∷ todo) s count used found steps specs
+-- what comes next was written where there is room
+see_more : (s0 s : State) (todo : List State) (count : ℕ) (peeks peeks' : List Peek)
+    → IsSeen s count peeks peeks'
+    → (count ≤ length peeks
+    → map peek_meant (take count peeks) ++ map lookahead (s ∷ todo) ≡ lookaheads s0)
+    → count + 1 ≤ length peeks'
+    → map peek_meant (take (count + 1) peeks') ++ map lookahead todo ≡ lookaheads s0
+see_more s0 s todo count peeks peeks' seen h room = by_room (cases_lt count (length peeks))
+  where
+    by_room : (count < length peeks) ⊎ (length peeks ≤ count)
+        → map peek_meant (take (count + 1) peeks') ++ map lookahead todo ≡ lookaheads s0
+    by_room (inl fits) =
+        let (p, (put, meant)) = seen.room fits in
+        rw (
+          put,
+          take_more_set peeks count p fits,
+          map-append peek_meant (take count peeks) (p ∷ []),
+        )
+        (append_assoc (map peek_meant (take count peeks)) (peek_meant p ∷ []) (map lookahead todo)
+        ∙ ap (λ e. map peek_meant (take count peeks) ++ (e ∷ map lookahead todo)) meant
+        ∙ h (omega (arith, fits)))
+    by_room (inr full) = absurd (omega (arith, full, room, ap length (seen.full full)))
+
+pub one_more : (input : List ℕ) (s0 s new : State) (todo : List State) (count used used' : ℕ)
+    (found found' : FinderList) (steps steps' : List Step) (specs specs' : List SpecRecord)
+    (peeks peeks' : List Peek) →
+    IsUpTo input s0 (s ∷ todo) s count used found steps specs peeks
     → new ≡ state_after s (next_call s)
     → used' ≡ used + specs_in (given_piece s) →
     found'.calls ≡ add_finders count found.calls (next_call s).faults
     → found'.front_count ≡ found.front_count + fronts_in (next_call s) →
-    IsAdded input (event peeks s) count used' steps steps' specs'
-    → take used specs' ≡ take used specs → length specs' ≡ length specs →
-    IsUpTo peeks input s0 todo new (count + 1) used' found' steps' specs'
-one_more peeks input s0 s new todo count used used' found found' steps steps' specs specs' h state
-    more finders front_count added front long =
+    IsAdded input (event s) count used' steps steps' specs'
+    → take used specs' ≡ take used specs → length specs' ≡ length specs
+    → IsSeen s count peeks peeks'
+    → IsUpTo input s0 todo new (count + 1) used' found' steps' specs' peeks'
+one_more input s0 s new todo count used used' found found' steps steps' specs specs' peeks peeks' h
+    state more finders front_count added front long seen =
     let r = added.step in
     let put = added.put in
     let one = specs_in-le (given_piece s) in
@@ -173,12 +198,13 @@ one_more peeks input s0 s new todo count used used' found found' steps steps' sp
             map-append (step_meant input specs') (take count steps) (r ∷ []),
           )
           (append_assoc (map (step_meant input specs') (take count steps))
-          (step_meant input specs' r ∷ []) (map (event peeks) todo)
-          ∙ ap (λ l. l ++ (step_meant input specs' r ∷ map (event peeks) todo))
+          (step_meant input specs' r ∷ []) (map event todo)
+          ∙ ap (λ l. l ++ (step_meant input specs' r ∷ map event todo))
           (same_meant input specs' specs used (take count steps) front h.few)
           ∙ ap (λ e. map (step_meant input specs) (take count steps)
-          ++ (e ∷ map (event peeks) todo)) (added.described in_specs)
+          ++ (e ∷ map event todo)) (added.described in_specs)
           ∙ earlier);
+      seen = see_more s0 s todo count peeks peeks' seen h.seen;
     }
 
 -- From the start on.
@@ -194,34 +220,41 @@ added_on m a b c e h k = record {
 }
 
 -- The records that were not written yet stay as they were.
+kept_after : {R : Type 0} (old new orig : List R) (count : ℕ)
+    → (count < length old → (r : R) × (new ≡ set old count r)) → (length old ≤ count → new ≡ old)
+    → drop count old ≡ drop count orig → drop (count + 1) new ≡ drop (count + 1) orig
+kept_after old new orig count put full h = by_room (cases_lt count (length old))
+  where
+    by_room : (count < length old) ⊎ (length old ≤ count) → drop (count + 1) new
+        ≡ drop (count + 1) orig
+    by_room (inl fits) = let (r, e) = put fits in rw e (keep_put old orig count r h)
+    by_room (inr past) = rw (full past) (keep_more old orig count h)
+
 pub kept_put : (input : List ℕ) (e : Event) (old new orig : List Step) (specs : List SpecRecord)
     (count used : ℕ)
     → IsAdded input e count used old new specs → drop count old ≡ drop count orig
     → drop (count + 1) new ≡ drop (count + 1) orig
-kept_put input e old new orig specs count used added h = by_room (cases_lt count (length old))
-  where
-    by_room : (count < length old) ⊎ (length old ≤ count) → drop (count + 1) new
-        ≡ drop (count + 1) orig
-    by_room (inl room) = rw (added.put.0 room) (keep_put old orig count added.step h)
-    by_room (inr full) = rw (added.put.1 full) (keep_more old orig count h)
+kept_put input e old new orig specs count used added h =
+    kept_after old new orig count (λ room. (added.step, added.put.0 room)) added.put.1 h
+
+pub kept_seen : (s : State) (old new orig : List Peek) (count : ℕ) → IsSeen s count old new
+    → drop count old ≡ drop count orig → drop (count + 1) new ≡ drop (count + 1) orig
+kept_seen s old new orig count seen h =
+    kept_after old new orig count (λ room. let (p, (put, _)) = seen.room room in (p, put)) seen.full
+    h
 
 -- A step describes its call.
-pub described : (peeks : Bool) (input : List ℕ) (specs : List SpecRecord) (r : Step) (s t : State)
+pub described : (input : List ℕ) (specs : List SpecRecord) (r : Step) (s t : State)
     → t ≡ state_after s (next_call s) →
     piece_meant input (spec_at input specs r.spec) r
     ≡ option_map (piece_in s.world) (next_call s).piece → maybe_place r.has_place r.place
     ≡ closed_in s.world (next_call s).closes →
     r.offset ≡ position t.input t.rest → r.next_index ≡ t.next → r.lines ≡ length t.line_spans
-    → maybe_place r.peeks.has_peek r.peeks.peek
-    ≡ looked_for_place peeks (place_of_first t t.rest) →
-    maybe_place r.peeks.has_peek_ahead r.peeks.peek_ahead
-    ≡ looked_for_place peeks (place_of_first t (after_first t.rest))
-    → step_meant input specs r ≡ event peeks s
-described peeks input specs r s t state piece place read next lines peek ahead =
-    rw (piece, place, read, next, lines, peek, ahead, state) refl
+    → step_meant input specs r ≡ event s
+described input specs r s t state piece place read next lines =
+    rw (piece, place, read, next, lines, state) refl
 
--- The call at the end gives nothing, finds nothing and closes nothing, and there is nothing to look
--- for.
+-- The call at the end gives nothing, finds nothing and closes nothing.
 pub end_specs : (s : State) → s.rest ≡ [] → specs_in (given_piece s) ≡ 0
 end_specs s e = ap (λ o. specs_in (option_map (piece_in s.world) o)) (at_end s e).0
 
@@ -244,33 +277,21 @@ end_closes : (s : State) → s.rest ≡ [] → closed_in s.world (next_call s).c
 unfolding call
 end_closes s e = rw e (closed_in-none s.world)
 
-not_looked_for : (peeks : Bool) → looked_for_place peeks None ≡ None
-not_looked_for true = refl
-not_looked_for false = refl
-
 pub no_piece : (input : List ℕ) (spec : Spec Place) (r : Step) → r.kind ≡ 0
     → piece_meant input spec r ≡ None
 unfolding piece_meant
 no_piece input spec r e = rw e refl
 
-pub report_end : (peeks : Bool) (input : List ℕ) (specs : List SpecRecord) (r : Step) (s t : State)
+pub report_end : (input : List ℕ) (specs : List SpecRecord) (r : Step) (s t : State)
     → t ≡ state_after s (next_call s) → s.rest ≡ [] →
     piece_meant input (spec_at input specs r.spec) r ≡ None
     → maybe_place r.has_place r.place ≡ None
     → r.offset ≡ position t.input t.rest → r.next_index ≡ t.next →
-    r.lines ≡ length t.line_spans → maybe_place r.peeks.has_peek r.peeks.peek ≡ None
-    → maybe_place r.peeks.has_peek_ahead r.peeks.peek_ahead ≡ None
-    → step_meant input specs r ≡ event peeks s
-report_end peeks input specs r s t state e piece place read next lines peek ahead =
-    let none : t.rest ≡ [] = ap (λ (u : State). u.rest) (state ∙ (at_end s e).1) ∙ e in
-    let no_peek = ap (λ u. looked_for_place peeks (place_of_first t u)) none
-    ∙ not_looked_for peeks in
-    let no_ahead = ap (λ u. looked_for_place peeks (place_of_first t (after_first u))) none
-    ∙ not_looked_for peeks in
-    described peeks input specs r s t state (piece
+    r.lines ≡ length t.line_spans → step_meant input specs r ≡ event s
+report_end input specs r s t state e piece place read next lines =
+    described input specs r s t state (piece
     ∙ sym (ap (option_map (piece_in s.world)) (at_end s e).0))
     (place ∙ sym (end_closes s e)) read next lines
-    (peek ∙ sym no_peek) (ahead ∙ sym no_ahead)
 
 -- As many finders as errors.
 pub length-finders : (n : ℕ) (old : List ℕ) (s : State) (ks : List Call)
@@ -281,10 +302,10 @@ length-finders n old s (k ∷ ks) e =
     length-finders (suc n) (add_finders n old k.faults) (state_after s k) ks
     (omega (arith, length-add_finders n old k.faults, length-after s k, e))
 
-pub begin : (peeks : Bool) (input : List ℕ) (s : State) (found : FinderList) (steps : List Step)
-    (specs : List SpecRecord) → found.calls ≡ [] → found.front_count ≡ 0 →
-    IsUpTo peeks input s (states s) s 0 0 found steps specs
-begin peeks input s found steps specs e f = record {
+pub begin : (input : List ℕ) (s : State) (found : FinderList) (steps : List Step)
+    (specs : List SpecRecord) (peeks : List Peek) → found.calls ≡ [] → found.front_count ≡ 0 →
+    IsUpTo input s (states s) s 0 0 found steps specs peeks
+begin input s found steps specs peeks e f = record {
   counted = omega arith;
   specs_counted = omega arith;
   fewer = omega arith;
@@ -293,4 +314,5 @@ begin peeks input s found steps specs e f = record {
   front_count = omega (arith, f);
   few = tt;
   written = λ room specs_room. refl;
+  seen = λ room. refl;
 }

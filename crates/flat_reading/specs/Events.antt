@@ -13,6 +13,7 @@ use Rattle.rustc_parse_format.specs.Lines.{closed_in}
 use Rattle.rustc_parse_format.specs.World.{World, Place, piece_in}
 use Rattle.rustc_parse_format.specs.State.{State, first_of, next_call, state_after, after_all}
 use Rattle.flat_reading.specs.declared.records.Step.{Step}
+use Rattle.flat_reading.specs.declared.records.Peek.{Peek}
 use Rattle.flat_reading.specs.declared.records.Spec.{Spec as SpecRecord}
 use Rattle.flat_reading.specs.Meaning.{maybe_place, piece_meant, spec_at}
 
@@ -27,10 +28,6 @@ pub record Event : Type 0 where
   pub next_index : ℕ
   -- The number of lines.
   pub lines : ℕ
-  -- The places of the next character and of the one after it. Both are None unless the caller wants
-  -- peeks.
-  pub peek : Option Place
-  pub peek_ahead : Option Place
 
 -- The number of bytes of the input before the suffix that is left.
 abbrev pub position : Text → Text → ℕ
@@ -40,26 +37,19 @@ position input rest = byte_length input - byte_length rest
 abbrev pub place_of_first : State → Text → Option Place
 place_of_first s t = option_map (λ x. x.0) (first_of s.world s.input t)
 
--- The place, if the caller wants peeks, and otherwise None.
-abbrev pub looked_for_place : Bool → Option Place → Option Place
-looked_for_place wants_peeks p = if wants_peeks then p else None
-
--- The event of the call k, which leaves the parser in the state t. The flag says whether the caller
--- wants peeks.
-abbrev pub event_of : Bool → World → Call → State → Event
-event_of wants_peeks w k t = record {
+-- The event of the call k, which leaves the parser in the state t.
+abbrev pub event_of : World → Call → State → Event
+event_of w k t = record {
   piece = option_map (piece_in w) k.piece;
   place = closed_in w k.closes;
   offset = position t.input t.rest;
   next_index = t.next;
   lines = length t.line_spans;
-  peek = looked_for_place wants_peeks (place_of_first t t.rest);
-  peek_ahead = looked_for_place wants_peeks (place_of_first t (after_first t.rest));
 }
 
 -- The event of the next call.
-abbrev pub event : Bool → State → Event
-event wants_peeks s = event_of wants_peeks s.world (next_call s) (state_after s (next_call s))
+abbrev pub event : State → Event
+event s = event_of s.world (next_call s) (state_after s (next_call s))
 
 -- The piece that the next call returns.
 abbrev pub given_piece : State → Option (Piece Place)
@@ -82,8 +72,24 @@ abbrev pub calls : State → List Call
 calls s = map next_call (states s)
 
 -- The events of all calls.
-abbrev pub events : Bool → State → List Event
-events wants_peeks s = map (event wants_peeks) (states s)
+abbrev pub events : State → List Event
+events s = map event (states s)
+
+-- The places of the next two characters. Each is None where there is no such character.
+pub record Lookahead : Type 0 where
+  pub first : Option Place
+  pub second : Option Place
+
+-- The places of the two characters that come next at a state.
+abbrev pub lookahead : State → Lookahead
+lookahead s = record {
+  first = place_of_first s s.rest;
+  second = place_of_first s (after_first s.rest);
+}
+
+-- The places of the two characters that come next before each call.
+abbrev pub lookaheads : State → List Lookahead
+lookaheads s = map lookahead (states s)
 
 -- The state after all calls.
 abbrev pub end_of : State → State
@@ -169,6 +175,11 @@ step_meant input specs r = record {
   offset = r.offset;
   next_index = r.next_index;
   lines = r.lines;
-  peek = maybe_place r.peeks.has_peek r.peeks.peek;
-  peek_ahead = maybe_place r.peeks.has_peek_ahead r.peeks.peek_ahead;
+}
+
+-- The places of two characters that a record means.
+abbrev pub peek_meant : Peek → Lookahead
+peek_meant r = record {
+  first = maybe_place r.has_peek r.peek;
+  second = maybe_place r.has_peek_ahead r.peek_ahead;
 }

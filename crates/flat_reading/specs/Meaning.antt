@@ -11,7 +11,6 @@ use Rattle.rustc_parse_format.specs.Types.{Count, Is, Name, Param, Star, Implied
 use Rattle.rustc_parse_format.specs.Types.{Piece, Lit, NextArgument, default_spec}
 use Rattle.rustc_parse_format.specs.World.{Place}
 use Rattle.flat_reading.specs.declared.records.Extent.{Extent}
-use Rattle.flat_reading.specs.declared.records.CountRecord.{CountRecord}
 use Rattle.flat_reading.specs.declared.records.Spec.{Spec as SpecRecord}
 use Rattle.flat_reading.specs.declared.records.Step.{Step}
 
@@ -78,14 +77,15 @@ type_meant input kind r =
     else (if kind == 2 then codes "x"
     else (if kind == 3 then codes "X" else (if kind == 4 then codes "?" else no_text))))
 
--- The count of a record, by its kind. An unknown kind has a name that is `no_text`.
-unfoldable pub count_meant : List ℕ → CountRecord → Count Place
-count_meant input k =
-    if k.kind == 0 then Implied
-    else (if k.kind == 1 then Is k.number
-    else (if k.kind == 2 then Name (text_at input k.name) (place k.name_span)
-    else (if k.kind == 3 then Param k.number
-    else (if k.kind == 4 then Star k.number else Name no_text (place k.name_span)))))
+-- The count that a kind, a number, a range of the input and a span mean. An unknown kind has a name
+-- that is `no_text`.
+unfoldable pub count_meant : List ℕ → ℕ → ℕ → Extent → Extent → Count Place
+count_meant input kind number name span =
+    if kind == 0 then Implied
+    else (if kind == 1 then Is number
+    else (if kind == 2 then Name (text_at input name) (place span)
+    else (if kind == 3 then Param number
+    else (if kind == 4 then Star number else Name no_text (place span)))))
 
 -- The alignment, the sign and the case of a record have known numbers.
 abbrev pub is_listed : SpecRecord → Bool
@@ -101,9 +101,10 @@ spec_meant input s = record {
   alternate = is_set s.alternate;
   zero_pad = is_set s.zero_pad;
   debug_hex = hex_meant s.debug_hex;
-  width = count_meant input s.width;
+  width = count_meant input s.width_kind s.width_number s.width_name s.width_name_span;
   width_span = maybe_place s.has_width_span s.width_span;
-  precision = count_meant input s.precision;
+  precision =
+      count_meant input s.precision_kind s.precision_number s.precision_name s.precision_name_span;
   precision_span = maybe_place s.has_precision_span s.precision_span;
   ty = type_meant input s.type_kind s.ty;
   ty_span = maybe_place s.has_ty_span s.ty_span;

@@ -16,13 +16,14 @@ use Rattle.rustc_parse_format.specs.World.{World, Place, piece_in, plain_world}
 use Rattle.rustc_parse_format.specs.State.{State, state_after, after_all, next_call}
 use Rattle.flat_reading.specs.declared.flat.SpecBuffer.{SpecBuffer}
 use Rattle.flat_reading.specs.declared.records.Step.{Step}
+use Rattle.flat_reading.specs.declared.records.Peek.{Peek}
 use Rattle.flat_reading.specs.declared.records.Spec.{Spec as SpecRecord}
 use Rattle.flat_reading.specs.declared.texts.Texts.{Texts}
 use Rattle.flat_reading.specs.declared.reading.Reading.{Reading}
 use Rattle.flat_reading.specs.declared.walk.Walker.{Walker}
 use Rattle.flat_reading.specs.Events.{Event, add_finders, end_of, event, events, finders_from}
 use Rattle.flat_reading.specs.Events.{finders_of, fronts_in, fronts_of, given_piece, spec_count}
-use Rattle.flat_reading.specs.Events.{specs_in}
+use Rattle.flat_reading.specs.Events.{lookahead, lookaheads, peek_meant, specs_in}
 use Rattle.flat_reading.specs.Events.{states, step_meant}
 use Rattle.flat_reading.specs.ErrorRecords.{FinderList}
 use Rattle.flat_reading.specs.Meaning.{text_at, type_meant}
@@ -183,11 +184,18 @@ pub record IsAdded (input : List ℕ) (e : Event) (count used : ℕ) (old new : 
   pub few : step.spec ≤ used
   pub described : used ≤ length specs → step_meant input specs step ≡ e
 
+-- A record of the two characters that come next at the state was written at the index `count`, if
+-- there is room.
+pub record IsSeen (s : State) (count : ℕ) (old new : List Peek) : Type 0 where
+  pub room : count < length old
+      → (p : Peek) × ((new ≡ set old count p) × (peek_meant p ≡ lookahead s))
+  pub full : length old ≤ count → new ≡ old
+
 -- The two steps say the same about the state after the call.
 abbrev pub SameAfter : Step → Step → Type 0
 SameAfter old new =
     (new.has_place ≡ old.has_place) × (new.place ≡ old.place) × (new.offset ≡ old.offset)
-    × (new.next_index ≡ old.next_index) × (new.lines ≡ old.lines) × (new.peeks ≡ old.peeks)
+    × (new.next_index ≡ old.next_index) × (new.lines ≡ old.lines)
 
 -- The numbers of the specifications of these steps are at most k.
 abbrev pub AllFew : ℕ → List Step → Type 0
@@ -196,9 +204,9 @@ AllFew k (r ∷ rs) = (r.spec ≤ k) × AllFew k rs
 
 -- So far so many steps and specifications are noted of the calls from the state s0 on, which came
 -- to s; the calls at the states `todo` are left.
-pub record IsUpTo (wants_peeks : Bool) (input : List ℕ) (s0 : State) (todo : List State) (s : State)
-    (count used : ℕ) (found : FinderList) (steps : List Step)
-    (specs : List SpecRecord) : Type 0 where
+pub record IsUpTo (input : List ℕ) (s0 : State) (todo : List State) (s : State) (count used : ℕ)
+    (found : FinderList) (steps : List Step) (specs : List SpecRecord)
+    (peeks : List Peek) : Type 0 where
   pub counted : count + length todo ≡ length (states s0)
   pub specs_counted : used + sum_by (λ (t : State). specs_in (given_piece t)) todo ≡ spec_count s0
   pub fewer : used ≤ count
@@ -207,5 +215,6 @@ pub record IsUpTo (wants_peeks : Bool) (input : List ℕ) (s0 : State) (todo : L
   pub front_count : found.front_count + sum_by fronts_in (map next_call todo) ≡ fronts_of s0
   pub few : AllFew used (take count steps)
   pub written : count ≤ length steps → used ≤ length specs
-      → map (step_meant input specs) (take count steps) ++ map (event wants_peeks) todo
-      ≡ events wants_peeks s0
+      → map (step_meant input specs) (take count steps) ++ map event todo ≡ events s0
+  pub seen : count ≤ length peeks
+      → map peek_meant (take count peeks) ++ map lookahead todo ≡ lookaheads s0

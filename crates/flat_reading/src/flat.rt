@@ -20,9 +20,9 @@ ghost use Rattle.flat_reading.specs.Progress.{SpecAt};
 
 use crate::records::{
     ALIGN_CENTER, ALIGN_LEFT, ALIGN_RIGHT, ALIGN_UNKNOWN, COUNT_IMPLIED, COUNT_IS, COUNT_IS_NAME,
-    COUNT_IS_PARAM, COUNT_IS_STAR, CountRecord, Extent, HEX_LOWER, HEX_NONE, HEX_UPPER, NO_FILL,
-    PIECE_ARGUMENT, PIECE_NONE, PIECE_TEXT, POSITION_IMPLICIT, POSITION_INDEX, POSITION_NAMED,
-    SIGN_MINUS, SIGN_NONE, SIGN_PLUS, Spec, Step, TYPE_TEXT,
+    COUNT_IS_PARAM, COUNT_IS_STAR, Extent, HEX_LOWER, HEX_NONE, HEX_UPPER, NO_FILL, PIECE_ARGUMENT,
+    PIECE_NONE, PIECE_TEXT, POSITION_IMPLICIT, POSITION_INDEX, POSITION_NAMED, SIGN_MINUS,
+    SIGN_NONE, SIGN_PLUS, Spec, Step, TYPE_TEXT,
 };
 use crate::texts::{Texts, argument_texts, name_extent};
 use rustc_parse_format::{Alignment, Argument, Count, DebugHex, FormatSpec, Position, Sign};
@@ -41,15 +41,25 @@ pub fn extent(range: &Range<usize>) -> Extent
     }
 }
 
+/// Writes a byte range. (Each field is copied by itself: a copy of both at once would wait for the
+/// two that the parser has just written.)
+#[inline(always)]
+pub fn put_extent(range: &Range<usize>, record: &mut Extent)
+    ensures { place_meant record.new ≡ pair range.now }
+{
+    record.start = range.start;
+    record.end = range.end;
+}
+
 /// Writes a byte range, or none: then the number before it is 0, and `record` stays as it is.
 #[inline(always)]
-fn put_extent(range: &Option<Range<usize>>, has_range: &mut u8, record: &mut Extent)
+fn put_maybe_extent(range: &Option<Range<usize>>, has_range: &mut u8, record: &mut Extent)
     ensures { maybe_place has_range.new record.new ≡ option_map pair range.now }
 {
     match range {
         Some(range) => {
             *has_range = 1;
-            *record = extent(range);
+            put_extent(range, record);
         }
         None => *has_range = 0,
     }
@@ -109,31 +119,38 @@ fn debug_hex(hex: Option<DebugHex>) -> u8
     }
 }
 
-/// Writes a count over a record. `name` is the byte range of its name in the input.
+/// Writes a count over the fields of a record. `extent` is the byte range of its name in the input.
 #[tactic(auto, unfolding(crate::specs::Meaning::count_meant))]
 #[inline(always)]
-fn put_count(count: &Count<'_>, name: Extent, record: &mut CountRecord)
-    ensures { (input : List ℕ) → CountAt (text_at input name) (seen_count count.now)
-        → count_meant input record.new ≡ seen_count count.now }
+fn put_count(
+    count: &Count<'_>,
+    extent: Extent,
+    kind: &mut u8,
+    number: &mut usize,
+    name: &mut Extent,
+    name_span: &mut Extent,
+)
+    ensures { (input : List ℕ) → CountAt (text_at input extent) (seen_count count.now)
+        → count_meant input kind.new number.new name.new name_span.new ≡ seen_count count.now }
 {
     match count {
-        Count::CountImplied => record.kind = COUNT_IMPLIED,
-        Count::CountIs(number) => {
-            record.kind = COUNT_IS;
-            record.number = usize::from(*number);
+        Count::CountImplied => *kind = COUNT_IMPLIED,
+        Count::CountIs(value) => {
+            *kind = COUNT_IS;
+            *number = usize::from(*value);
         }
-        Count::CountIsParam(number) => {
-            record.kind = COUNT_IS_PARAM;
-            record.number = *number;
+        Count::CountIsParam(index) => {
+            *kind = COUNT_IS_PARAM;
+            *number = *index;
         }
-        Count::CountIsStar(number) => {
-            record.kind = COUNT_IS_STAR;
-            record.number = *number;
+        Count::CountIsStar(index) => {
+            *kind = COUNT_IS_STAR;
+            *number = *index;
         }
         Count::CountIsName(_, span) => {
-            record.kind = COUNT_IS_NAME;
-            record.name = name;
-            record.name_span = extent(span);
+            *kind = COUNT_IS_NAME;
+            *name = extent;
+            put_extent(span, name_span);
         }
     }
 }
@@ -152,27 +169,41 @@ fn put_spec(spec: &FormatSpec<'_>, texts: &Texts, record: &mut Spec)
     record.alternate = flag(spec.alternate);
     record.zero_pad = flag(spec.zero_pad);
     record.type_kind = texts.type_kind;
-    put_count(&spec.width, texts.width, &mut record.width);
-    put_count(&spec.precision, texts.precision, &mut record.precision);
+    put_count(
+        &spec.width,
+        texts.width,
+        &mut record.width_kind,
+        &mut record.width_number,
+        &mut record.width_name,
+        &mut record.width_name_span,
+    );
+    put_count(
+        &spec.precision,
+        texts.precision,
+        &mut record.precision_kind,
+        &mut record.precision_number,
+        &mut record.precision_name,
+        &mut record.precision_name_span,
+    );
     if texts.type_kind == TYPE_TEXT {
         record.ty = texts.ty;
     }
-    put_extent(
+    put_maybe_extent(
         &spec.fill_span,
         &mut record.has_fill_span,
         &mut record.fill_span,
     );
-    put_extent(
+    put_maybe_extent(
         &spec.width_span,
         &mut record.has_width_span,
         &mut record.width_span,
     );
-    put_extent(
+    put_maybe_extent(
         &spec.precision_span,
         &mut record.has_precision_span,
         &mut record.precision_span,
     );
-    put_extent(&spec.ty_span, &mut record.has_ty_span, &mut record.ty_span);
+    put_maybe_extent(&spec.ty_span, &mut record.has_ty_span, &mut record.ty_span);
 }
 
 /// Returns whether a specification has no fill, alignment or flag.
@@ -334,7 +365,7 @@ fn put_bare_argument(argument: &Argument<'_>, text: Extent, step: &mut Step)
 {
     step.kind = PIECE_ARGUMENT;
     put_position(&argument.position, text, step);
-    step.position_span = extent(&argument.position_span);
+    put_extent(&argument.position_span, &mut step.position_span);
     step.spec = no_spec(&argument.format);
 }
 
@@ -361,7 +392,7 @@ fn put_full_argument(
 {
     step.kind = PIECE_ARGUMENT;
     put_position(&argument.position, texts.text, step);
-    step.position_span = extent(&argument.position_span);
+    put_extent(&argument.position_span, &mut step.position_span);
     step.spec = specs.add(&argument.format, texts);
 }
 

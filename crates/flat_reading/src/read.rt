@@ -4,20 +4,57 @@ ghost use Rattle.std.specs.Prelude.{◌≡◌, ◌≤◌, IfNone, IfOk, IfSome, 
 ghost use Rattle.std.specs.Prelude.{Some, chars, drop, length, map, option_map, string_bytes, take};
 ghost use Rattle.rustc_parse_format.specs.Views.{pair, seen_mode};
 ghost use Rattle.rustc_parse_format.specs.World.{hashes};
-ghost use Rattle.flat_reading.specs.Interface.{Fits, IsCounted, IsKept, IsDescribed, asked_state};
-ghost use Rattle.flat_reading.specs.Interface.{buffers, limit};
+ghost use Rattle.flat_reading.specs.Interface.{Fits, IsCounted, IsDescribed, IsKept, SameBuffers};
+ghost use Rattle.flat_reading.specs.Interface.{asked_state, contents, limit};
 ghost use Rattle.flat_reading.specs.Meaning.{place};
 ghost use Rattle.flat_reading.specs.Progress.{IsPlain};
 
 use crate::errors::put_errors;
-use crate::flat::{SpecBuffer, flag};
+use crate::flat::{SpecBuffer, flag, put_extent};
 use crate::reading::{Reading, mode_with_escapes, offset_of};
-use crate::records::{Answer, Extent, Fault, Spec, Step};
+use crate::records::{Answer, Extent, Fault, Peek, Spec, Step};
 use crate::task::Task;
-use crate::walk::{NO_PEEKS, Walker, look_ahead};
+use crate::walk::Walker;
 use rustc_parse_format::{ParseMode, Parser};
 use std::alloc::{AllocError, Global};
 use std::ops::Range;
+
+/// The buffers into which the results are written.
+#[repr(C)]
+#[derive(Drop)]
+pub struct Buffers<'a> {
+    /// The calls of the parser, in order.
+    pub steps: &'a mut [Step],
+    /// The specifications that the steps refer to.
+    pub specs: &'a mut [Spec],
+    /// The errors in the input.
+    pub faults: &'a mut [Fault],
+    /// The texts of the errors, in UTF-8.
+    pub texts: &'a mut [u8],
+    /// The byte ranges of the lines in the source.
+    pub lines: &'a mut [Extent],
+    /// For each step, the two characters that come next before its call. If it is empty, none are
+    /// looked for.
+    pub peeks: &'a mut [Peek],
+}
+
+impl Buffers<'_> {
+    ghost use Rattle.std.specs.Prelude.{IsFalse, IsTrue};
+    ghost use Rattle.flat_reading.specs.Interface.{Fits, contents};
+
+    /// Returns whether all results that an answer counts fit into the buffers.
+    pub fn fit(&self, answer: &Answer) -> bool
+        ensures yes { IsTrue result → Fits (contents self.now) answer.now }
+        ensures no { IsFalse result → ¬ (Fits (contents self.now) answer.now) }
+    {
+        answer.steps <= self.steps.len()
+            && answer.specs <= self.specs.len()
+            && answer.faults <= self.faults.len()
+            && answer.texts <= self.texts.len()
+            && answer.lines <= self.lines.len()
+            && (self.peeks.is_empty() || answer.steps <= self.peeks.len())
+    }
+}
 
 /// Returns a copy of a snippet. Returns `Err` if an allocation fails.
 fn owned_snippet(alloc: Global, snippet: Option<&str>) -> Result<Option<String>, AllocError>
@@ -38,9 +75,7 @@ fn put_lines(spans: &[Range<usize>], lines: &mut [Extent])
 {
     for i in 0..spans.len() {
         if i < lines.len() {
-            // (a copy of both at once would wait for the two that the parser has just written)
-            lines[i].start = spans[i].start;
-            lines[i].end = spans[i].end;
+            put_extent(&spans[i], &mut lines[i]);
         }
     }
 }
@@ -56,11 +91,7 @@ fn read_by<'a>(
     task: Task<'a>,
     offset: usize,
     escapes: Option<ParseMode>,
-    steps: &mut [Step],
-    specs: &mut [Spec],
-    faults: &mut [Fault],
-    texts: &mut [u8],
-    lines: &mut [Extent],
+    buffers: &mut Buffers<'_>,
     answer: &mut Answer,
 ) -> Result<(), AllocError>
     requires input_length { length task.input.now ≤ limit }
@@ -69,41 +100,30 @@ fn read_by<'a>(
     requires plain { IfNone escapes (IsPlain start offset) }
     requires mode { IfSome escapes (λ m. seen_mode m ≡ start.mode) }
     requires short { length start.rest ≤ length task.input.now }
-    ensures counted { OnOk result
-        (IsCounted task.entry.wants_peeks (asked_state task.entry) answer.new) }
+    ensures counted { OnOk result (IsCounted (asked_state task.entry) answer.new) }
     ensures described { OnOk result
-        (Fits (buffers steps.old specs.old faults.old texts.old lines.old) answer.new
-        → IsDescribed task.entry.wants_peeks (asked_state task.entry) task.entry.input.now
-        (buffers steps.new specs.new faults.new texts.new lines.new) answer.new) }
-    ensures kept { OnOk result
-        (IsKept answer.new (buffers steps.old specs.old faults.old texts.old lines.old)
-        (buffers steps.new specs.new faults.new texts.new lines.new)) }
+        (Fits (contents buffers.old) answer.new → IsDescribed (asked_state task.entry)
+        task.entry.input.now (contents buffers.new) answer.new) }
+    ensures kept { OnOk result (IsKept answer.new (contents buffers.old) (contents buffers.new)) }
+    ensures same { SameBuffers buffers.old buffers.new }
     ensures err { OnErr result (answer.new ≡ answer.old) }
 {
     let is_source_literal = flag(start.is_source_literal());
     let mut walker = Walker::new(alloc, start);
-    let reading = Reading::new(task.input, offset, escapes, task.wants_peeks);
-    let mut specs = SpecBuffer::new(specs);
-    let mut peeks = NO_PEEKS;
-    if task.wants_peeks {
-        look_ahead(&walker.parser, &mut peeks);
-    }
-    let count = walker.walk(&reading, steps, &mut specs)?;
+    let reading = Reading::new(task.input, offset, escapes);
+    let mut specs = SpecBuffer::new(buffers.specs);
+    let count = walker.walk(&reading, buffers.steps, &mut specs, buffers.peeks)?;
     let errors = walker.parser.errors();
     let spans = walker.parser.line_spans();
-    put_lines(spans, lines);
+    put_lines(spans, buffers.lines);
     // (field by field, since a copy of a record also copies what lies between its fields)
     answer.steps = count;
     answer.specs = specs.count();
     answer.faults = errors.len();
-    answer.texts = put_errors(errors, &walker.finders, faults, texts);
+    answer.texts = put_errors(errors, &walker.finders, buffers.faults, buffers.texts);
     answer.lines = spans.len();
     answer.front_faults = walker.finders.front_count();
     answer.is_source_literal = is_source_literal;
-    answer.peeks.has_peek = peeks.has_peek;
-    answer.peeks.has_peek_ahead = peeks.has_peek_ahead;
-    answer.peeks.peek = peeks.peek;
-    answer.peeks.peek_ahead = peeks.peek_ahead;
     Ok(())
 }
 
@@ -112,24 +132,17 @@ fn read_by<'a>(
 fn read_with_snippet(
     alloc: Global,
     task: Task<'_>,
-    steps: &mut [Step],
-    specs: &mut [Spec],
-    faults: &mut [Fault],
-    texts: &mut [u8],
-    lines: &mut [Extent],
+    buffers: &mut Buffers<'_>,
     answer: &mut Answer,
 ) -> Result<(), AllocError>
     requires input_length { length task.input.now ≤ limit }
     requires hashes { hashes task.style ≤ limit }
-    ensures counted { OnOk result
-        (IsCounted task.entry.wants_peeks (asked_state task.entry) answer.new) }
+    ensures counted { OnOk result (IsCounted (asked_state task.entry) answer.new) }
     ensures described { OnOk result
-        (Fits (buffers steps.old specs.old faults.old texts.old lines.old) answer.new
-        → IsDescribed task.entry.wants_peeks (asked_state task.entry) task.entry.input.now
-        (buffers steps.new specs.new faults.new texts.new lines.new) answer.new) }
-    ensures kept { OnOk result
-        (IsKept answer.new (buffers steps.old specs.old faults.old texts.old lines.old)
-        (buffers steps.new specs.new faults.new texts.new lines.new)) }
+        (Fits (contents buffers.old) answer.new → IsDescribed (asked_state task.entry)
+        task.entry.input.now (contents buffers.new) answer.new) }
+    ensures kept { OnOk result (IsKept answer.new (contents buffers.old) (contents buffers.new)) }
+    ensures same { SameBuffers buffers.old buffers.new }
     ensures err { OnErr result (answer.new ≡ answer.old) }
 {
     let literal = owned_snippet(alloc, task.snippet)?;
@@ -143,9 +156,7 @@ fn read_with_snippet(
     )?;
     let escapes = mode_with_escapes(&start, &task);
     let offset = offset_of(task.style);
-    read_by(
-        alloc, start, task, offset, escapes, steps, specs, faults, texts, lines, answer,
-    )
+    read_by(alloc, start, task, offset, escapes, buffers, answer)
 }
 
 /// Reads an input, up to and including the call at its end, and writes the results into buffers of
@@ -159,28 +170,21 @@ fn read_with_snippet(
 pub fn read(
     alloc: Global,
     task: Task<'_>,
-    steps: &mut [Step],
-    specs: &mut [Spec],
-    faults: &mut [Fault],
-    texts: &mut [u8],
-    lines: &mut [Extent],
+    buffers: &mut Buffers<'_>,
     answer: &mut Answer,
 ) -> Result<(), AllocError>
     requires input_length { length task.input.now ≤ limit }
     requires hashes { hashes task.style ≤ limit }
-    ensures counted { OnOk result
-        (IsCounted task.entry.wants_peeks (asked_state task.entry) answer.new) }
+    ensures counted { OnOk result (IsCounted (asked_state task.entry) answer.new) }
     ensures described { OnOk result
-        (Fits (buffers steps.old specs.old faults.old texts.old lines.old) answer.new
-        → IsDescribed task.entry.wants_peeks (asked_state task.entry) task.entry.input.now
-        (buffers steps.new specs.new faults.new texts.new lines.new) answer.new) }
-    ensures kept { OnOk result
-        (IsKept answer.new (buffers steps.old specs.old faults.old texts.old lines.old)
-        (buffers steps.new specs.new faults.new texts.new lines.new)) }
+        (Fits (contents buffers.old) answer.new → IsDescribed (asked_state task.entry)
+        task.entry.input.now (contents buffers.new) answer.new) }
+    ensures kept { OnOk result (IsKept answer.new (contents buffers.old) (contents buffers.new)) }
+    ensures same { SameBuffers buffers.old buffers.new }
     ensures err { OnErr result (answer.new ≡ answer.old) }
 {
     match task.snippet {
-        Some(_) => read_with_snippet(alloc, task, steps, specs, faults, texts, lines, answer),
+        Some(_) => read_with_snippet(alloc, task, buffers, answer),
         // (without a snippet, the compiler leaves out most of what `Parser::new` does)
         None => {
             let start = Parser::new(
@@ -193,9 +197,7 @@ pub fn read(
             )?;
             let escapes = mode_with_escapes(&start, &task);
             let offset = offset_of(task.style);
-            read_by(
-                alloc, start, task, offset, escapes, steps, specs, faults, texts, lines, answer,
-            )
+            read_by(alloc, start, task, offset, escapes, buffers, answer)
         }
     }
 }

@@ -73,8 +73,6 @@ pub struct Reading<'a> {
     pub offset: usize,
     /// The mode of the parser, if the literal may have escapes.
     pub escapes: Option<ParseMode>,
-    /// Whether the byte ranges of the next two characters are wanted.
-    pub wants_peeks: bool,
 }
 
 impl<'a> Reading<'a> {
@@ -83,23 +81,16 @@ impl<'a> Reading<'a> {
 
     /// Creates it from its parts.
     #[inline(always)]
-    pub fn new(
-        input: &'a str,
-        offset: usize,
-        escapes: Option<ParseMode>,
-        wants_peeks: bool,
-    ) -> Reading<'a>
+    pub fn new(input: &'a str, offset: usize, escapes: Option<ParseMode>) -> Reading<'a>
         ensures utf8 { IsUtf8 result.input.now }
         ensures input { result.input.now ≡ input.now }
         ensures offset { result.offset ≡ offset }
         ensures escapes { result.escapes ≡ escapes }
-        ensures wants_peeks { result.wants_peeks ≡ wants_peeks }
     {
         Reading {
             input,
             offset,
             escapes,
-            wants_peeks,
         }
     }
 }

@@ -10,10 +10,10 @@ pub struct Extent {
     pub end: usize,
 }
 
-/// The byte ranges in the source of the next two characters, if they are wanted.
+/// The byte ranges in the source of the next two characters before a call.
 #[repr(C)]
 #[derive(Clone, Copy)]
-pub struct Peeks {
+pub struct Peek {
     /// Not 0 if there is a next character.
     pub has_peek: u8,
     /// Not 0 if there is a character after that.
@@ -44,8 +44,6 @@ pub struct Options {
     pub has_snippet: u32,
     /// Not 0 if a newline was appended to the input that is not in the snippet.
     pub appended_newline: u32,
-    /// Not 0 to fill in `peeks`.
-    pub wants_peeks: u32,
 }
 
 pub const COUNT_IMPLIED: u8 = 0;
@@ -57,20 +55,6 @@ pub const COUNT_IS_NAME: u8 = 2;
 pub const COUNT_IS_PARAM: u8 = 3;
 
 pub const COUNT_IS_STAR: u8 = 4;
-
-/// A width or a precision.
-#[repr(C)]
-#[derive(Clone, Copy)]
-pub struct CountRecord {
-    /// One of `COUNT_..`.
-    pub kind: u8,
-    /// The number, or the index of the argument.
-    pub number: usize,
-    /// The name of the argument, as a range of the input.
-    pub name: Extent,
-    /// The byte range of the name in the source.
-    pub name_span: Extent,
-}
 
 pub const ALIGN_UNKNOWN: u8 = 0;
 
@@ -105,7 +89,8 @@ pub const TYPE_DEBUG: u8 = 4;
 /// The value of `fill` if there is no fill character: no character has this code.
 pub const NO_FILL: u32 = 0x11_0000;
 
-/// A format specification that is not the default one.
+/// A format specification that is not the default one. What few specifications have is last, and
+/// touches no memory where it is absent.
 #[repr(C)]
 #[derive(Clone, Copy)]
 pub struct Spec {
@@ -123,6 +108,10 @@ pub struct Spec {
     pub zero_pad: u8,
     /// One of `TYPE_..`.
     pub type_kind: u8,
+    /// One of `COUNT_..`.
+    pub width_kind: u8,
+    /// One of `COUNT_..`.
+    pub precision_kind: u8,
     /// Not 0 if there is a `fill_span`.
     pub has_fill_span: u8,
     /// Not 0 if there is a `width_span`.
@@ -131,14 +120,24 @@ pub struct Spec {
     pub has_precision_span: u8,
     /// Not 0 if there is a `ty_span`.
     pub has_ty_span: u8,
-    pub width: CountRecord,
-    pub precision: CountRecord,
-    /// The type, as a range of the input, if `type_kind` is `TYPE_TEXT`.
-    pub ty: Extent,
-    pub fill_span: Extent,
+    /// The width, or the index of the argument that is the width.
+    pub width_number: usize,
+    /// The precision, or the index of the argument that is the precision.
+    pub precision_number: usize,
     pub width_span: Extent,
     pub precision_span: Extent,
+    /// The type, as a range of the input, if `type_kind` is `TYPE_TEXT`.
+    pub ty: Extent,
     pub ty_span: Extent,
+    pub fill_span: Extent,
+    /// The name of the argument that is the width, as a range of the input.
+    pub width_name: Extent,
+    /// The byte range of that name in the source.
+    pub width_name_span: Extent,
+    /// The name of the argument that is the precision, as a range of the input.
+    pub precision_name: Extent,
+    /// The byte range of that name in the source.
+    pub precision_name_span: Extent,
 }
 
 pub const PIECE_NONE: u8 = 0;
@@ -180,8 +179,6 @@ pub struct Step {
     pub next_index: usize,
     /// The number of lines after the call.
     pub lines: usize,
-    /// The two characters after what the call read.
-    pub peeks: Peeks,
 }
 
 pub const MEND_NONE: u32 = 0;
@@ -223,8 +220,7 @@ pub struct Fault {
     pub step: usize,
 }
 
-/// The lengths of the results, in records and, for `texts`, in bytes, and the state before the
-/// first call.
+/// The lengths of the results, in records and, for `texts`, in bytes.
 #[repr(C)]
 #[derive(Clone, Copy)]
 pub struct Answer {
@@ -238,8 +234,6 @@ pub struct Answer {
     pub front_faults: usize,
     /// Not 0 if the snippet is the source literal of the input.
     pub is_source_literal: u8,
-    /// The first two characters.
-    pub peeks: Peeks,
 }
 
 /// Success: all results are written.

@@ -28,8 +28,6 @@ pub struct Task<'a> {
     pub snippet: Option<&'a str>,
     /// Whether the input ends in a newline that is not in the source.
     pub appended_newline: bool,
-    /// Whether the byte ranges of the next two characters are wanted after each call.
-    pub wants_peeks: bool,
 }
 
 /// The most bytes of an input, and the most hashes of a raw literal.
@@ -82,7 +80,6 @@ pub fn task_of<'a>(input: &'a [u8], snippet: &'a [u8], options: &Options) -> Res
     ensures snippet { IfOk result (λ a. option_map (λ t. chars t.now) a.snippet
         ≡ snippet_meant options.now snippet.now) }
     ensures newline { IfOk result (λ a. a.appended_newline ≡ is_set options.now.appended_newline) }
-    ensures wants_peeks { IfOk result (λ a. a.wants_peeks ≡ is_set options.now.wants_peeks) }
     ensures input_length { IfOk result (λ a. length a.input.now ≤ limit) }
     ensures hashes { IfOk result (λ a. hashes a.style ≤ limit) }
 {
@@ -109,6 +106,5 @@ pub fn task_of<'a>(input: &'a [u8], snippet: &'a [u8], options: &Options) -> Res
         style: style_of(options),
         snippet,
         appended_newline: options.appended_newline != 0,
-        wants_peeks: options.wants_peeks != 0,
     })
 }

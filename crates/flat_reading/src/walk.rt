@@ -1,6 +1,6 @@
 //! Writes the calls of a parser, up to the end of the input, as records.
 
-ghost use Rattle.std.specs.Prelude.{◌≡◌, ℕ, ◌<◌, ◌≤◌, ◌^◌, ◌++◌, if◌then◌else◌, [], Bool, List};
+ghost use Rattle.std.specs.Prelude.{◌≡◌, ℕ, ◌<◌, ◌≤◌, ◌^◌, ◌++◌, if◌then◌else◌, [], List};
 ghost use Rattle.std.specs.Prelude.{None, Option, Some, IfNone, IfOk, IfSome, OnOk, chars, drop};
 ghost use Rattle.std.specs.Prelude.{length, map, option_map, take};
 ghost use Rattle.rustc_parse_format.specs.Characters.{after_first};
@@ -14,21 +14,22 @@ ghost use Rattle.rustc_parse_format.specs.World.{Place};
 ghost use Rattle.flat_reading.specs.declared.records.Spec.{Spec as SpecRecord};
 ghost use Rattle.flat_reading.specs.declared.records.Step.{Step as StepRecord};
 ghost use Rattle.flat_reading.specs.Events.{end_of, event, events, finders_of, fronts_of};
-ghost use Rattle.flat_reading.specs.Events.{given_piece, is_default, looked_for_place};
+ghost use Rattle.flat_reading.specs.Events.{given_piece, is_default, lookaheads, peek_meant};
 ghost use Rattle.flat_reading.specs.Events.{place_of_first};
 ghost use Rattle.flat_reading.specs.Events.{position, spec_count, specs_in, states, step_meant};
+ghost use Rattle.flat_reading.specs.Interface.{SameBuffer};
 ghost use Rattle.flat_reading.specs.Meaning.{maybe_place, piece_meant, spec_at};
 ghost use Rattle.flat_reading.specs.Progress.{Adds, IsAdded, IsOnItsWay};
-ghost use Rattle.flat_reading.specs.Progress.{IsReadAt, IsUpTo, MakesCall};
+ghost use Rattle.flat_reading.specs.Progress.{IsReadAt, IsSeen, IsUpTo, MakesCall};
 ghost use Rattle.flat_reading.specs.Progress.{PlaceholderStands, RunStands, SameAfter};
 
 use crate::finders::Finders;
 use crate::flat::{
-    NOWHERE, SpecBuffer, extent, put_argument, put_no_piece, put_plain_argument, put_text,
+    NOWHERE, SpecBuffer, put_argument, put_extent, put_no_piece, put_plain_argument, put_text,
 };
 use crate::near::texts_of;
 use crate::reading::Reading;
-use crate::records::{Extent, PIECE_NONE, POSITION_IMPLICIT, Peeks, Step};
+use crate::records::{Extent, PIECE_NONE, POSITION_IMPLICIT, Peek, Step};
 use crate::texts::run_extent;
 use rustc_parse_format::{Argument, NextPiece, ParseMode, Parser, PieceKind};
 use std::alloc::{AllocError, Global};
@@ -46,49 +47,36 @@ const BLANK: Step = Step {
     offset: 0,
     next_index: 0,
     lines: 0,
-    peeks: NO_PEEKS,
 };
 
-/// No characters.
-pub const NO_PEEKS: Peeks = Peeks {
-    has_peek: 0,
-    has_peek_ahead: 0,
-    peek: NOWHERE,
-    peek_ahead: NOWHERE,
-};
-
-/// Writes the byte ranges in the source of the next two characters where none are written.
+/// Writes the byte ranges in the source of the next two characters.
 #[inline(never)]
-pub fn look_ahead(parser: &Parser<'_>, peeks: &mut Peeks)
-    requires { (peeks.old.has_peek ≡ 0) × (peeks.old.has_peek_ahead ≡ 0) }
-    ensures place { maybe_place peeks.new.has_peek peeks.new.peek
+fn put_peek(parser: &Parser<'_>, peek: &mut Peek)
+    ensures first { maybe_place peek.new.has_peek peek.new.peek
         ≡ place_of_first parser.now parser.now.rest }
-    ensures ahead { maybe_place peeks.new.has_peek_ahead peeks.new.peek_ahead
+    ensures second { maybe_place peek.new.has_peek_ahead peek.new.peek_ahead
         ≡ place_of_first parser.now (after_first parser.now.rest) }
 {
+    peek.has_peek = 0;
+    peek.has_peek_ahead = 0;
     if let Some((place, _, _)) = parser.peek() {
-        peeks.has_peek = 1;
-        peeks.peek = extent(&place);
+        peek.has_peek = 1;
+        put_extent(&place, &mut peek.peek);
     }
     if let Some((place, _, _)) = parser.peek_ahead() {
-        peeks.has_peek_ahead = 1;
-        peeks.peek_ahead = extent(&place);
+        peek.has_peek_ahead = 1;
+        put_extent(&place, &mut peek.peek_ahead);
     }
 }
 
-/// Writes the byte ranges in the source of the next two characters, or none if `wants_peeks` is
-/// false.
+/// Writes the byte ranges in the source of the next two characters into the record with this index,
+/// if there is one.
 #[inline(always)]
-fn put_peeks(parser: &Parser<'_>, wants_peeks: bool, peeks: &mut Peeks)
-    ensures place { maybe_place peeks.new.has_peek peeks.new.peek
-        ≡ looked_for_place wants_peeks (place_of_first parser.now parser.now.rest) }
-    ensures ahead { maybe_place peeks.new.has_peek_ahead peeks.new.peek_ahead
-        ≡ looked_for_place wants_peeks (place_of_first parser.now (after_first parser.now.rest)) }
+fn add_peek(parser: &Parser<'_>, number: usize, peeks: &mut [Peek])
+    ensures { IsSeen parser.now number peeks.old peeks.new }
 {
-    peeks.has_peek = 0;
-    peeks.has_peek_ahead = 0;
-    if wants_peeks {
-        look_ahead(parser, peeks);
+    if number < peeks.len() {
+        put_peek(parser, &mut peeks[number]);
     }
 }
 
@@ -104,7 +92,7 @@ fn put_closed_place(parser: &Parser<'_>, old_count: usize, has_place: &mut u8, p
     if parser.is_source_literal() {
         if let Some(closed) = parser.arg_places().get(old_count) {
             *has_place = 1;
-            *place = extent(closed);
+            put_extent(closed, place);
         }
     }
 }
@@ -140,7 +128,7 @@ impl<'a> Walker<'a> {
         Walker {
             alloc,
             parser,
-            finders: Finders::new(alloc),
+            finders: Finders::new(),
         }
     }
 
@@ -167,6 +155,7 @@ impl<'a> Walker<'a> {
         ensures number { OnOk result (step.new.spec ≤ specs.new.count) }
         ensures adds { OnOk result (Adds (if is_default (seen_spec argument.now.format)
             then 0 else 1) specs.old specs.new) }
+        ensures room { SameBuffer specs.old.records specs.new.records }
         ensures others { OnOk result (SameAfter step.old step.new) }
     {
         let texts = texts_of(self.alloc, mode, input, start, next, argument)?;
@@ -205,6 +194,7 @@ impl<'a> Walker<'a> {
         ensures adds { OnOk result
             (Adds (specs_in (option_map (seen_taken argument.now) piece.now)) specs.old
             specs.new) }
+        ensures room { SameBuffer specs.old.records specs.new.records }
         ensures others { OnOk result (SameAfter step.old step.new) }
     {
         match piece {
@@ -243,10 +233,11 @@ impl<'a> Walker<'a> {
         requires room { specs.old.count < usize.MAX }
         ensures described { OnOk result (specs.new.count ≤ length specs.old.records.now
             → step_meant reading.now.input.now specs.new.records.now step.new
-            ≡ event reading.now.wants_peeks self.old.parser) }
+            ≡ event self.old.parser) }
         ensures number { OnOk result (step.new.spec ≤ specs.new.count) }
         ensures adds { OnOk result (Adds (specs_in
             (given_piece self.old.parser)) specs.old specs.new) }
+        ensures room { SameBuffer specs.old.records specs.new.records }
         ensures call { OnOk result (MakesCall number reading.now self.old self.new) }
         ensures read { OnOk result (step.new.offset
             ≡ position self.new.parser.input self.new.parser.rest) }
@@ -261,9 +252,8 @@ impl<'a> Walker<'a> {
         } = self.parser.next_into(argument)?;
         put_state(&self.parser, step);
         put_closed_place(&self.parser, places, &mut step.has_place, &mut step.place);
-        put_peeks(&self.parser, reading.wants_peeks, &mut step.peeks);
-        self.finders
-            .add(number, front_errors, self.parser.errors().len() - faults)?;
+        let count = self.parser.errors().len() - faults;
+        self.finders.add(self.alloc, number, front_errors, count)?;
         self.put_piece(reading, argument, &piece, start, next, specs, step)?;
         Ok(())
     }
@@ -283,11 +273,11 @@ impl<'a> Walker<'a> {
         requires ready { IsOnItsWay reading self.old }
         requires room { specs.old.count < usize.MAX }
         ensures added { OnOk result ((full : List StepRecord) → length full ≤ number
-            → IsAdded reading.entry.input.now
-            (event reading.entry.wants_peeks self.old.parser) number specs.new.count full full
-            specs.new.records.now) }
+            → IsAdded reading.entry.input.now (event self.old.parser) number specs.new.count full
+            full specs.new.records.now) }
         ensures adds { OnOk result (Adds (specs_in
             (given_piece self.old.parser)) specs.old specs.new) }
+        ensures room { SameBuffer specs.old.records specs.new.records }
         ensures call { OnOk result (MakesCall number reading.entry self.old self.new) }
         ensures read { IfOk result (λ n. n ≡ position self.new.parser.input self.new.parser.rest) }
     {
@@ -311,12 +301,11 @@ impl<'a> Walker<'a> {
         requires ready { IsOnItsWay reading.now self.old }
         requires room { specs.old.count < usize.MAX }
         ensures added { OnOk result
-            (IsAdded reading.now.input.now
-            (event reading.now.wants_peeks self.old.parser) number specs.new.count steps.old
-            steps.new
-            specs.new.records.now) }
+            (IsAdded reading.now.input.now (event self.old.parser) number specs.new.count steps.old
+            steps.new specs.new.records.now) }
         ensures adds { OnOk result (Adds (specs_in
             (given_piece self.old.parser)) specs.old specs.new) }
+        ensures room { SameBuffer specs.old.records specs.new.records }
         ensures call { OnOk result (MakesCall number reading.now self.old self.new) }
         ensures read { IfOk result (λ n. n ≡ position self.new.parser.input self.new.parser.rest) }
     {
@@ -364,9 +353,8 @@ impl<'a> Walker<'a> {
     #[inline(always)]
     fn put_end(&mut self, step: &mut Step) -> Result<(), AllocError>
         requires { self.old.parser.rest ≡ [] }
-        ensures described { OnOk result ((wants_peeks : Bool) (input : List ℕ)
-            (specs : List SpecRecord)
-            → step_meant input specs step.new ≡ event wants_peeks self.old.parser) }
+        ensures described { OnOk result ((input : List ℕ) (specs : List SpecRecord)
+            → step_meant input specs step.new ≡ event self.old.parser) }
         ensures number { OnOk result (step.new.spec ≡ 0) }
         ensures state { OnOk result (self.new.parser
             ≡ state_after self.old.parser (next_call self.old.parser)) }
@@ -375,8 +363,6 @@ impl<'a> Walker<'a> {
         self.end()?;
         put_state(&self.parser, step);
         step.has_place = 0;
-        step.peeks.has_peek = 0;
-        step.peeks.has_peek_ahead = 0;
         put_no_piece(step);
         Ok(())
     }
@@ -387,9 +373,8 @@ impl<'a> Walker<'a> {
     fn add_end(&mut self, number: usize, steps: &mut [Step]) -> Result<(), AllocError>
         requires { self.old.parser.rest ≡ [] }
         ensures added { OnOk result
-            ((wants_peeks : Bool) (input : List ℕ) (count : ℕ) (specs : List SpecRecord)
-            → IsAdded input (event wants_peeks self.old.parser) number count steps.old steps.new
-            specs) }
+            ((input : List ℕ) (count : ℕ) (specs : List SpecRecord)
+            → IsAdded input (event self.old.parser) number count steps.old steps.new specs) }
         ensures state { OnOk result (self.new.parser
             ≡ state_after self.old.parser (next_call self.old.parser)) }
         ensures finders { OnOk result (self.new.finders ≡ self.old.finders) }
@@ -403,14 +388,15 @@ impl<'a> Walker<'a> {
         Ok(())
     }
 
-    /// Makes the calls before the end of the input, and returns their number. The steps and the
-    /// specifications that fit are written. Returns `Err` if an allocation fails.
+    /// Makes the calls before the end of the input, and returns their number. The steps, the
+    /// specifications and the peeks that fit are written. Returns `Err` if an allocation fails.
     #[inline(always)]
     fn add_steps(
         &mut self,
         reading: &Reading<'_>,
         steps: &mut [Step],
         specs: &mut SpecBuffer<'_>,
+        peeks: &mut [Peek],
     ) -> Result<usize, AllocError>
         requires ready { IsOnItsWay reading.now self.old }
         requires small { length self.old.parser.rest < 2 ^ 63 }
@@ -419,11 +405,13 @@ impl<'a> Walker<'a> {
         requires empty { specs.old.count ≡ 0 }
         ensures end { OnOk result (self.new.parser.rest ≡ []) }
         ensures small { IfOk result (λ k. k < 2 ^ 63) }
-        ensures up_to { IfOk result (λ k. IsUpTo reading.now.wants_peeks reading.now.input.now
-            self.old.parser (states self.new.parser) self.new.parser k specs.new.count
-            self.new.finders steps.new specs.new.records.now) }
+        ensures up_to { IfOk result (λ k. IsUpTo reading.now.input.now self.old.parser
+            (states self.new.parser) self.new.parser k specs.new.count self.new.finders steps.new
+            specs.new.records.now peeks.new) }
         ensures specs { OnOk result (Adds specs.new.count specs.old specs.new) }
+        ensures room { SameBuffer specs.old.records specs.new.records }
         ensures kept_steps { IfOk result (λ k. drop k steps.new ≡ drop k steps.old) }
+        ensures kept_peeks { IfOk result (λ k. drop k peeks.new ≡ drop k peeks.old) }
     {
         // (an empty input needs no argument)
         if reading.input.is_empty() {
@@ -433,6 +421,7 @@ impl<'a> Walker<'a> {
         let mut count = 0;
         let mut offset = 0;
         while offset < reading.input.len() {
+            add_peek(&self.parser, count, peeks);
             offset = self.add_step(reading, &mut argument, count, steps, specs)?;
             count += 1;
         }
@@ -440,14 +429,15 @@ impl<'a> Walker<'a> {
     }
 
     /// Makes all calls up to and including the one at the end of the input, and returns their
-    /// number. The steps and the specifications that fit are written. Returns `Err` if an
-    /// allocation fails.
+    /// number. The steps, the specifications and the peeks that fit are written. Returns `Err` if
+    /// an allocation fails.
     #[inline(always)]
     pub fn walk(
         &mut self,
         reading: &Reading<'_>,
         steps: &mut [Step],
         specs: &mut SpecBuffer<'_>,
+        peeks: &mut [Peek],
     ) -> Result<usize, AllocError>
         requires ready { IsOnItsWay reading.now self.old }
         requires small { length self.old.parser.rest < 2 ^ 63 }
@@ -456,17 +446,22 @@ impl<'a> Walker<'a> {
         requires empty { specs.old.count ≡ 0 }
         ensures count { IfOk result (λ k. k ≡ length (states self.old.parser)) }
         ensures specs { OnOk result (Adds (spec_count self.old.parser) specs.old specs.new) }
+        ensures room { SameBuffer specs.old.records specs.new.records }
         ensures written { IfOk result (λ k. k ≤ length steps.old → specs.new.count
             ≤ length specs.old.records.now
             → map (step_meant reading.now.input.now (take specs.new.count specs.new.records.now))
-            (take k steps.new) ≡ events reading.now.wants_peeks self.old.parser) }
+            (take k steps.new) ≡ events self.old.parser) }
+        ensures seen { IfOk result (λ k. k ≤ length peeks.old
+            → map peek_meant (take k peeks.new) ≡ lookaheads self.old.parser) }
         ensures state { OnOk result (self.new.parser ≡ end_of self.old.parser) }
         ensures finders { OnOk result (self.new.finders.calls ≡ finders_of self.old.parser) }
         ensures front_count { OnOk result (self.new.finders.front_count
             ≡ fronts_of self.old.parser) }
         ensures kept_steps { IfOk result (λ k. drop k steps.new ≡ drop k steps.old) }
+        ensures kept_peeks { IfOk result (λ k. drop k peeks.new ≡ drop k peeks.old) }
     {
-        let count = self.add_steps(reading, steps, specs)?;
+        let count = self.add_steps(reading, steps, specs, peeks)?;
+        add_peek(&self.parser, count, peeks);
         self.add_end(count, steps)?;
         Ok(count + 1)
     }

@@ -15,8 +15,6 @@ use records::*;
 use std::ops::Range;
 
 const NOWHERE: Extent = Extent { start: 0, end: 0 };
-const NO_PEEKS: Peeks =
-    Peeks { has_peek: 0, has_peek_ahead: 0, peek: NOWHERE, peek_ahead: NOWHERE };
 /// The most bytes of an input, and the most hashes of a raw literal.
 const LIMIT: u64 = 1_000_000_000_000;
 
@@ -66,15 +64,15 @@ impl Buffer<'_, u8> {
     }
 }
 
-fn count(input: &str, count: &Count<'_>) -> CountRecord {
-    let (kind, number, name, name_span) = match count {
+/// The kind, the number, the name and its span of a count.
+fn count(input: &str, count: &Count<'_>) -> (u8, usize, Extent, Extent) {
+    match count {
         CountImplied => (COUNT_IMPLIED, 0, NOWHERE, NOWHERE),
         CountIs(n) => (COUNT_IS, usize::from(*n), NOWHERE, NOWHERE),
         CountIsName(name, span) => (COUNT_IS_NAME, 0, place_in(input, name), extent(span)),
         CountIsParam(n) => (COUNT_IS_PARAM, *n, NOWHERE, NOWHERE),
         CountIsStar(n) => (COUNT_IS_STAR, *n, NOWHERE, NOWHERE),
-    };
-    CountRecord { kind, number, name, name_span }
+    }
 }
 
 fn spec(input: &str, format: &FormatSpec<'_>) -> Spec {
@@ -85,6 +83,9 @@ fn spec(input: &str, format: &FormatSpec<'_>) -> Spec {
         ("X", None) => (TYPE_UPPER_HEX, NOWHERE),
         (_, None) => (TYPE_DEBUG, NOWHERE),
     };
+    let (width_kind, width_number, width_name, width_name_span) = count(input, &format.width);
+    let (precision_kind, precision_number, precision_name, precision_name_span) =
+        count(input, &format.precision);
     let (has_fill_span, fill_span) = maybe(format.fill_span.as_ref());
     let (has_width_span, width_span) = maybe(format.width_span.as_ref());
     let (has_precision_span, precision_span) = maybe(format.precision_span.as_ref());
@@ -110,17 +111,23 @@ fn spec(input: &str, format: &FormatSpec<'_>) -> Spec {
         alternate: format.alternate.into(),
         zero_pad: format.zero_pad.into(),
         type_kind,
+        width_kind,
+        precision_kind,
         has_fill_span,
         has_width_span,
         has_precision_span,
         has_ty_span,
-        width: count(input, &format.width),
-        precision: count(input, &format.precision),
-        ty,
-        fill_span,
+        width_number,
+        precision_number,
         width_span,
         precision_span,
+        ty,
         ty_span,
+        fill_span,
+        width_name,
+        width_name_span,
+        precision_name,
+        precision_name_span,
     }
 }
 
@@ -153,7 +160,6 @@ fn blank_step() -> Step {
         offset: 0,
         next_index: 0,
         lines: 0,
-        peeks: NO_PEEKS,
     }
 }
 
@@ -191,14 +197,11 @@ fn fault(error: &ParseError, step: usize, texts: &mut Buffer<'_, u8>) -> Fault {
     }
 }
 
-/// The places of the next two characters, if they are wanted.
-fn peeks(parser: &Parser<'_>, options: &Options) -> Peeks {
-    if options.wants_peeks == 0 {
-        return NO_PEEKS;
-    }
+/// The places of the next two characters.
+fn peek(parser: &Parser<'_>) -> Peek {
     let (has_peek, peek) = maybe(parser.peek().map(|it| it.0).as_ref());
     let (has_peek_ahead, peek_ahead) = maybe(parser.peek_ahead().map(|it| it.0).as_ref());
-    Peeks { has_peek, has_peek_ahead, peek, peek_ahead }
+    Peek { has_peek, has_peek_ahead, peek, peek_ahead }
 }
 
 /// An input, how it is read, and its mode.
@@ -241,6 +244,7 @@ fn read(
     faults: &mut [Fault],
     texts: &mut [u8],
     lines: &mut [Extent],
+    peeks: &mut [Peek],
     answer: &mut Answer,
 ) -> u32 {
     let Task { input, style, snippet, mode } = match task(input, snippet, options) {
@@ -250,12 +254,16 @@ fn read(
     let newline = options.appended_newline != 0;
     let mut found = faults_of(input, style, snippet.clone(), newline, mode).into_iter();
     let mut parser = Parser::new(input, style, snippet, newline, mode);
-    let first_peeks = peeks(&parser, options);
     let mut steps = Buffer { room: steps, used: 0 };
     let mut specs = Buffer { room: specs, used: 0 };
+    let wants_peeks = !peeks.is_empty();
+    let mut peeks = Buffer { room: peeks, used: 0 };
     // (the last fault that goes to the front is the first one of the list)
     let (mut fronts, mut backs) = (vec![], vec![]);
     loop {
+        if wants_peeks {
+            peeks.push(peek(&parser));
+        }
         let (is_end, places) = (parser.peek().is_none(), parser.arg_places.len());
         let piece = parser.next();
         for fault in found.by_ref().take(parser.errors.len()) {
@@ -278,7 +286,6 @@ fn read(
             offset: parser.peek().map_or(input.len(), |(_, at, _)| at),
             next_index: parser.curarg,
             lines: parser.line_spans.len(),
-            peeks: peeks(&parser, options),
             ..step
         });
         if is_end {
@@ -300,10 +307,26 @@ fn read(
         lines: lines.used,
         front_faults: fronts.len(),
         is_source_literal: parser.is_source_literal.into(),
-        peeks: first_peeks,
     };
-    let fits = steps.fits() && specs.fits() && faults.fits() && texts.fits() && lines.fits();
-    if fits { DONE } else { SHORT }
+    let records_fit = steps.fits() && specs.fits() && faults.fits() && texts.fits();
+    if records_fit && lines.fits() && peeks.fits() { DONE } else { SHORT }
+}
+
+/// The buffers of a call, as `dephungo.h` has them.
+#[repr(C)]
+pub struct Rooms {
+    pub steps: *mut Step,
+    pub step_room: usize,
+    pub specs: *mut Spec,
+    pub spec_room: usize,
+    pub faults: *mut Fault,
+    pub fault_room: usize,
+    pub texts: *mut u8,
+    pub text_room: usize,
+    pub lines: *mut Extent,
+    pub line_room: usize,
+    pub peeks: *mut Peek,
+    pub peek_room: usize,
 }
 
 /// The call that `dephungo.h` describes.
@@ -313,37 +336,29 @@ fn read(
 /// No pointer is null, each points to as much as its length or its room says, and what is written
 /// overlaps nothing else.
 #[no_mangle]
-#[allow(clippy::too_many_arguments)]
 pub unsafe extern "C" fn dephungo_read(
     input: *const u8,
     input_length: usize,
     snippet: *const u8,
     snippet_length: usize,
     options: *const Options,
-    steps: *mut Step,
-    step_room: usize,
-    specs: *mut Spec,
-    spec_room: usize,
-    faults: *mut Fault,
-    fault_room: usize,
-    texts: *mut u8,
-    text_room: usize,
-    lines: *mut Extent,
-    line_room: usize,
+    buffers: *mut Rooms,
     answer: *mut Answer,
 ) -> u32 {
     use std::slice::{from_raw_parts, from_raw_parts_mut};
     // SAFETY: the caller promises all of it, and records and bytes may hold any numbers.
     unsafe {
+        let it = &*buffers;
         read(
             from_raw_parts(input, input_length),
             from_raw_parts(snippet, snippet_length),
             &*options,
-            from_raw_parts_mut(steps, step_room),
-            from_raw_parts_mut(specs, spec_room),
-            from_raw_parts_mut(faults, fault_room),
-            from_raw_parts_mut(texts, text_room),
-            from_raw_parts_mut(lines, line_room),
+            from_raw_parts_mut(it.steps, it.step_room),
+            from_raw_parts_mut(it.specs, it.spec_room),
+            from_raw_parts_mut(it.faults, it.fault_room),
+            from_raw_parts_mut(it.texts, it.text_room),
+            from_raw_parts_mut(it.lines, it.line_room),
+            from_raw_parts_mut(it.peeks, it.peek_room),
             &mut *answer,
         )
     }

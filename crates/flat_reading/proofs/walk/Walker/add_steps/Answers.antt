@@ -3,7 +3,8 @@ use Rattle.rustc_parse_format.specs.State.{State}
 use Rattle.flat_reading.specs.Events.{event, given_piece, specs_in, states}
 use Rattle.flat_reading.proofs.Widths.{none_left, some_left}
 use Rattle.flat_reading.proofs.Cuts.{is_none_of}
-use Rattle.flat_reading.proofs.Walking.{added_on, begin, goes_on, kept_put, one_more, states-more}
+use Rattle.flat_reading.proofs.Walking.{added_on, begin, goes_on, kept_put, kept_seen, one_more}
+use Rattle.flat_reading.proofs.Walking.{states-more}
 use Rattle.flat_reading.proofs.walk.Walker.add_steps.Goals as goal
 
 pub returns-then-is_empty : goal.returns-then-is_empty
@@ -18,7 +19,8 @@ returns-then-is_empty c =
           (omega (arith, is_none_of _ (sym c.is_empty.ensures ∙ c.if-is_empty.true)));
       small = omega arith;
       up_to = rw c.requires.empty
-          (begin r.wants_peeks r.input.now s w.finders c.args.steps.now c.args.specs.now.records.now
+          (begin r.input.now s w.finders c.args.steps.now c.args.specs.now.records.now
+          c.args.peeks.now
           (ap (λ f. f.calls) c.requires.none) (ap (λ f. f.front_count) c.requires.none));
       specs = record {
         same = refl;
@@ -27,7 +29,9 @@ returns-then-is_empty c =
         front = refl;
         kept = refl;
       };
+      room = (refl, refl);
       kept_steps = refl;
+      kept_peeks = refl;
     }
 
 pub loop-offset-init : goal.loop-offset-init
@@ -39,10 +43,11 @@ loop-offset-init c =
       read = rw c.requires.start (omega arith);
       room = omega arith;
       up_to = rw c.requires.empty
-          (begin r.wants_peeks r.input.now w.parser w.finders c.args.steps.now
-          c.args.specs.now.records.now
+          (begin r.input.now w.parser w.finders c.args.steps.now c.args.specs.now.records.now
+          c.args.peeks.now
           (ap (λ f. f.calls) c.requires.none) (ap (λ f. f.front_count) c.requires.none));
       kept_steps = refl;
+      kept_peeks = refl;
       specs = record {
         same = refl;
         room = refl;
@@ -81,18 +86,20 @@ loop-offset-preserved c =
       ready = call.ready;
       read = c.in_ok-offset.ensures.read;
       room = omega (arith, invariant.room, fewer, ap (λ (s : State). length s.rest) call.state);
-      up_to = one_more r.wants_peeks r.input.now s0 s new.parser
+      up_to = one_more r.input.now s0 s new.parser
           (states new.parser) c.loop-offset.count c.loop-offset.specs.count
           c.add_step.new.specs.count
           w.finders new.finders c.loop-offset.steps c.add_step.new.steps
           c.loop-offset.specs.records.now
-          c.add_step.new.specs.records.now
+          c.add_step.new.specs.records.now c.loop-offset.peeks c.add_peek.new.peeks
           (rw (states-more s new.parser more call.state) at invariant.up_to) call.state adds.used
-          call.finders call.front_count added adds.front adds.room;
+          call.finders call.front_count added adds.front adds.room c.add_peek.ensures;
       kept_steps =
-          kept_put r.input.now (event r.wants_peeks s) c.loop-offset.steps c.add_step.new.steps
+          kept_put r.input.now (event s) c.loop-offset.steps c.add_step.new.steps
           c.args.steps.now c.add_step.new.specs.records.now
           c.loop-offset.count c.add_step.new.specs.count added invariant.kept_steps;
+      kept_peeks = kept_seen s c.loop-offset.peeks c.add_peek.new.peeks c.args.peeks.now
+          c.loop-offset.count c.add_peek.ensures invariant.kept_peeks;
       specs = added_on (specs_in (given_piece s)) c.args.specs.now c.loop-offset.specs
           c.add_step.new.specs
           c.requires.empty invariant.specs adds;

@@ -9,11 +9,12 @@ invariant-loop-offset l = record {
   read : l.offset ≡ position l.self.parser.input l.self.parser.rest;
   room : l.count + length l.self.parser.rest ≤ length l.fn.self.parser.rest;
   up_to : (
-      IsUpTo l.reading.wants_peeks l.reading.input.now l.fn.self.parser
+      IsUpTo l.reading.input.now l.fn.self.parser
       (states l.self.parser) l.self.parser l.count l.specs.count l.self.finders l.steps
-      l.specs.records.now
+      l.specs.records.now l.peeks
       );
   kept_steps : drop l.count l.steps ≡ drop l.count l.fn.steps;
+  kept_peeks : drop l.count l.peeks ≡ drop l.count l.fn.peeks;
   specs : Adds l.specs.count l.fn.specs l.specs;
 }
 

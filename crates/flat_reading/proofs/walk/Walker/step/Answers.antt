@@ -3,7 +3,6 @@ use Rattle.std.proofs.lemmas.List.{length-map}
 use Rattle.rustc_parse_format.specs.Views.{pair, seen_error}
 use Rattle.rustc_parse_format.specs.State.{State, next_call}
 use Rattle.flat_reading.specs.Meaning.{maybe_place}
-use Rattle.flat_reading.specs.declared.records.Peeks.{Peeks}
 use Rattle.flat_reading.proofs.Walking.{described}
 use Rattle.flat_reading.specs.Events.{fronts_in, position}
 use Rattle.flat_reading.proofs.Escaped.{read_at}
@@ -37,8 +36,8 @@ put_piece-requires-clause-read c =
     c.position-start.ensures c.curarg-next.ensures.value
     c.curarg-next.ensures.fits c.in_ok-piece.ensures.piece
 
-pub overflow_sub-errors : goal.overflow_sub-errors
-overflow_sub-errors c =
+pub overflow_sub-count : goal.overflow_sub-count
+overflow_sub-count c =
     let before = sym (length-map c.errors-faults.result.now seen_error)
     ∙ ap length c.errors-faults.ensures in
     let rest_after = sym (length-map c.errors.result.now seen_error) ∙ ap length c.errors.ensures in
@@ -67,7 +66,7 @@ returns-clause-described c = λ room.
     let kept = c.in_ok-put_piece.ensures.others in
     let place = rw state at c.put_closed_place.ensures in
     let t = c.next_into.new.self in
-    described r.wants_peeks r.input.now c.put_piece.new.specs.records.now c.put_piece.new.step s t
+    described r.input.now c.put_piece.new.specs.records.now c.put_piece.new.step s t
     state
     (c.in_ok-put_piece.ensures.described room ∙ c.in_ok-piece.ensures.piece)
     (ap (λ (n : ℕ). maybe_place n c.put_piece.new.step.place) kept.0
@@ -77,9 +76,6 @@ returns-clause-described c = λ room.
     (kept.2 ∙ c.put_state.ensures.offset)
     (kept.3 ∙ c.put_state.ensures.next_index)
     (kept.4 ∙ c.put_state.ensures.lines)
-    (ap (λ (p : Peeks). maybe_place p.has_peek p.peek) kept.5 ∙ c.put_peeks.ensures.place)
-    (ap (λ (p : Peeks). maybe_place p.has_peek_ahead p.peek_ahead) kept.5
-    ∙ c.put_peeks.ensures.ahead)
 
 pub returns-clause-call : goal.returns-clause-call
 returns-clause-call c =

@@ -1,5 +1,5 @@
 use Rattle.flat_reading.proofs.Finding.{both_ends}
-use Rattle.flat_reading.proofs.finders.Finders.add_some.Goals as goal
+use Rattle.flat_reading.proofs.finders.Lists.add.Goals as goal
 
 pub returns-clause-calls : goal.returns-clause-calls
 returns-clause-calls c = rw (← c.self.view_is)
