@@ -14,7 +14,7 @@ use Rattle.rustc_parse_format.specs.Views.{seen_mode}
 use Rattle.rustc_parse_format.specs.Call.{call}
 use Rattle.rustc_parse_format.specs.World.{World, Place, piece_in, plain_world}
 use Rattle.rustc_parse_format.specs.State.{State, state_after, after_all, next_call}
-use Rattle.flat_reading.specs.declared.flat.SpecBuffer.{SpecBuffer}
+use Rattle.flat_reading.specs.declared.specification.SpecBuffer.{SpecBuffer}
 use Rattle.flat_reading.specs.declared.records.Step.{Step}
 use Rattle.flat_reading.specs.declared.records.Peek.{Peek}
 use Rattle.flat_reading.specs.declared.records.Spec.{Spec as SpecRecord}

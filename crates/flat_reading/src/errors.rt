@@ -1,18 +1,16 @@
 //! Errors as records, with their texts in a buffer.
 
-ghost use Rattle.std.specs.Prelude.{◌≡◌, ◌+◌, ◌≤◌, ◌++◌, drop, length, map, min, option_map};
+ghost use Rattle.std.specs.Prelude.{◌≡◌, ◌+◌, ◌≤◌, drop, length, map, min, option_map};
 ghost use Rattle.std.specs.Prelude.{string_bytes, take};
 ghost use Rattle.rustc_parse_format.specs.Views.{pair, seen_error, seen_suggestion};
 ghost use Rattle.flat_reading.specs.declared.records.Fault.{Fault as FaultRecord};
 ghost use Rattle.flat_reading.specs.ErrorRecords.{Grows, Holds, HoldsError, HoldsErrors};
-ghost use Rattle.flat_reading.specs.ErrorRecords.{HoldsMaybe};
-ghost use Rattle.flat_reading.specs.ErrorRecords.{HoldsSecond};
-ghost use Rattle.flat_reading.specs.ErrorRecords.{HoldsSuggestion, maybe_len, message_len};
-ghost use Rattle.flat_reading.specs.ErrorRecords.{second_len};
+ghost use Rattle.flat_reading.specs.ErrorRecords.{HoldsMaybe, HoldsSecond, HoldsSuggestion};
+ghost use Rattle.flat_reading.specs.ErrorRecords.{maybe_len, message_len, second_len};
 ghost use Rattle.flat_reading.specs.ErrorRecords.{suggestion_len, texts_len};
 
+use crate::fields::{NOWHERE, extent};
 use crate::finders::Finders;
-use crate::flat::{NOWHERE, extent};
 use crate::records::{
     Extent, Fault, MEND_ADD_MISSING_COLON, MEND_NONE, MEND_REMOVE_RAW_IDENT,
     MEND_REORDER_FORMAT_PARAMETER, MEND_USE_POSITIONAL, MEND_USE_RUST_DEBUG_PRINTING_MACRO,

@@ -3,12 +3,15 @@
 #![tactic(auto)]
 
 mod errors;
+mod fields;
 mod finders;
 mod flat;
 mod near;
 pub mod read;
 mod reading;
 pub mod records;
+mod specification;
+mod state;
 pub mod task;
 mod texts;
 mod walk;

@@ -7,7 +7,7 @@ ghost use Rattle.rustc_parse_format.specs.Types.{NextArgument};
 ghost use Rattle.flat_reading.specs.Meaning.{text_at};
 ghost use Rattle.flat_reading.specs.Progress.{IsListed, IsReadAt, PositionAt, SpecAt};
 
-use crate::flat::NOWHERE;
+use crate::fields::NOWHERE;
 use crate::records::Extent;
 use crate::texts::{Texts, extent_of, has_bytes_at, has_texts, listed_type, texts_at};
 use rustc_parse_format::{Argument, ParseMode, Position};

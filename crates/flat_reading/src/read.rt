@@ -1,7 +1,7 @@
 //! Reads a whole input at once.
 
-ghost use Rattle.std.specs.Prelude.{◌≡◌, ◌≤◌, IfNone, IfOk, IfSome, None, OnErr, OnOk};
-ghost use Rattle.std.specs.Prelude.{Some, chars, drop, length, map, option_map, string_bytes, take};
+ghost use Rattle.std.specs.Prelude.{◌≡◌, ◌≤◌, IfNone, IfOk, IfSome, None, OnErr, OnOk, Some, chars};
+ghost use Rattle.std.specs.Prelude.{drop, length, map, option_map, string_bytes, take};
 ghost use Rattle.rustc_parse_format.specs.Views.{pair, seen_mode};
 ghost use Rattle.rustc_parse_format.specs.World.{hashes};
 ghost use Rattle.flat_reading.specs.Interface.{Fits, IsCounted, IsDescribed, IsKept, SameBuffers};
@@ -10,9 +10,10 @@ ghost use Rattle.flat_reading.specs.Meaning.{place};
 ghost use Rattle.flat_reading.specs.Progress.{IsPlain};
 
 use crate::errors::put_errors;
-use crate::flat::{SpecBuffer, flag, put_extent};
+use crate::fields::{flag, put_extent};
 use crate::reading::{Reading, mode_with_escapes, offset_of};
 use crate::records::{Answer, Extent, Fault, Peek, Spec, Step};
+use crate::specification::SpecBuffer;
 use crate::task::Task;
 use crate::walk::Walker;
 use rustc_parse_format::{ParseMode, Parser};

@@ -14,7 +14,7 @@ ghost use Rattle.flat_reading.specs.Progress.{IsListed, IsReadAt, PositionAt, Po
 ghost use Rattle.flat_reading.specs.Progress.{SpecAt};
 ghost use Rattle.flat_reading.specs.Progress.{StandsAt, StandsAfter, TypeStands, has_texts};
 
-use crate::flat::NOWHERE;
+use crate::fields::NOWHERE;
 use crate::records::{Extent, TYPE_DEBUG, TYPE_LOWER_HEX, TYPE_NONE, TYPE_TEXT, TYPE_UPPER_HEX};
 use rustc_parse_format::{Argument, Count, FormatSpec, ParseMode, Parser, Position};
 use std::alloc::{AllocError, Global};

@@ -1,35 +1,29 @@
 //! Writes the calls of a parser, up to the end of the input, as records.
 
-ghost use Rattle.std.specs.Prelude.{◌≡◌, ℕ, ◌<◌, ◌≤◌, ◌^◌, ◌++◌, if◌then◌else◌, [], List};
-ghost use Rattle.std.specs.Prelude.{None, Option, Some, IfNone, IfOk, IfSome, OnOk, chars, drop};
-ghost use Rattle.std.specs.Prelude.{length, map, option_map, take};
-ghost use Rattle.rustc_parse_format.specs.Characters.{after_first};
-ghost use Rattle.rustc_parse_format.specs.Lines.{closed_in, place_list};
-ghost use Rattle.rustc_parse_format.specs.Marks.{Span};
-ghost use Rattle.rustc_parse_format.specs.Views.{pair, seen_argument, seen_mode, seen_spec};
-ghost use Rattle.rustc_parse_format.specs.Views.{seen_taken};
+ghost use Rattle.std.specs.Prelude.{◌≡◌, ℕ, ◌<◌, ◌≤◌, ◌^◌, if◌then◌else◌, [], List, None, Option};
+ghost use Rattle.std.specs.Prelude.{Some, IfNone, IfOk, IfSome, OnOk, drop, length, map};
+ghost use Rattle.std.specs.Prelude.{option_map, take};
+ghost use Rattle.rustc_parse_format.specs.Views.{seen_argument, seen_mode, seen_spec, seen_taken};
 ghost use Rattle.rustc_parse_format.specs.State.{state_after, next_call};
 ghost use Rattle.rustc_parse_format.specs.Types.{NextArgument};
-ghost use Rattle.rustc_parse_format.specs.World.{Place};
 ghost use Rattle.flat_reading.specs.declared.records.Spec.{Spec as SpecRecord};
 ghost use Rattle.flat_reading.specs.declared.records.Step.{Step as StepRecord};
 ghost use Rattle.flat_reading.specs.Events.{end_of, event, events, finders_of, fronts_of};
 ghost use Rattle.flat_reading.specs.Events.{given_piece, is_default, lookaheads, peek_meant};
-ghost use Rattle.flat_reading.specs.Events.{place_of_first};
 ghost use Rattle.flat_reading.specs.Events.{position, spec_count, specs_in, states, step_meant};
 ghost use Rattle.flat_reading.specs.Interface.{SameBuffer};
-ghost use Rattle.flat_reading.specs.Meaning.{maybe_place, piece_meant, spec_at};
-ghost use Rattle.flat_reading.specs.Progress.{Adds, IsAdded, IsOnItsWay};
-ghost use Rattle.flat_reading.specs.Progress.{IsReadAt, IsSeen, IsUpTo, MakesCall};
-ghost use Rattle.flat_reading.specs.Progress.{PlaceholderStands, RunStands, SameAfter};
+ghost use Rattle.flat_reading.specs.Meaning.{piece_meant, spec_at};
+ghost use Rattle.flat_reading.specs.Progress.{Adds, IsAdded, IsOnItsWay, IsReadAt, IsUpTo};
+ghost use Rattle.flat_reading.specs.Progress.{MakesCall, PlaceholderStands, RunStands, SameAfter};
 
+use crate::fields::NOWHERE;
 use crate::finders::Finders;
-use crate::flat::{
-    NOWHERE, SpecBuffer, put_argument, put_extent, put_no_piece, put_plain_argument, put_text,
-};
+use crate::flat::{put_argument, put_no_piece, put_plain_argument, put_text};
 use crate::near::texts_of;
 use crate::reading::Reading;
-use crate::records::{Extent, PIECE_NONE, POSITION_IMPLICIT, Peek, Step};
+use crate::records::{PIECE_NONE, POSITION_IMPLICIT, Peek, Step};
+use crate::specification::SpecBuffer;
+use crate::state::{add_peek, put_closed_place, put_state};
 use crate::texts::run_extent;
 use rustc_parse_format::{Argument, NextPiece, ParseMode, Parser, PieceKind};
 use std::alloc::{AllocError, Global};
@@ -48,67 +42,6 @@ const BLANK: Step = Step {
     next_index: 0,
     lines: 0,
 };
-
-/// Writes the byte ranges in the source of the next two characters.
-#[inline(never)]
-fn put_peek(parser: &Parser<'_>, peek: &mut Peek)
-    ensures first { maybe_place peek.new.has_peek peek.new.peek
-        ≡ place_of_first parser.now parser.now.rest }
-    ensures second { maybe_place peek.new.has_peek_ahead peek.new.peek_ahead
-        ≡ place_of_first parser.now (after_first parser.now.rest) }
-{
-    peek.has_peek = 0;
-    peek.has_peek_ahead = 0;
-    if let Some((place, _, _)) = parser.peek() {
-        peek.has_peek = 1;
-        put_extent(&place, &mut peek.peek);
-    }
-    if let Some((place, _, _)) = parser.peek_ahead() {
-        peek.has_peek_ahead = 1;
-        put_extent(&place, &mut peek.peek_ahead);
-    }
-}
-
-/// Writes the byte ranges in the source of the next two characters into the record with this index,
-/// if there is one.
-#[inline(always)]
-fn add_peek(parser: &Parser<'_>, number: usize, peeks: &mut [Peek])
-    ensures { IsSeen parser.now number peeks.old peeks.new }
-{
-    if number < peeks.len() {
-        put_peek(parser, &mut peeks[number]);
-    }
-}
-
-/// Writes the byte range in the source of the placeholder that a call closed, or none. `old_count`
-/// is the number of such ranges before the call; only a source literal has any.
-#[inline(always)]
-fn put_closed_place(parser: &Parser<'_>, old_count: usize, has_place: &mut u8, place: &mut Extent)
-    ensures { (old : List Place) (k : Option Span) → old_count ≡ length old
-        → parser.now.arg_places ≡ old ++ place_list (closed_in parser.now.world k)
-        → maybe_place has_place.new place.new ≡ closed_in parser.now.world k }
-{
-    *has_place = 0;
-    if parser.is_source_literal() {
-        if let Some(closed) = parser.arg_places().get(old_count) {
-            *has_place = 1;
-            put_extent(closed, place);
-        }
-    }
-}
-
-/// Writes the byte offset up to which the input is read, the index of the next implicit argument,
-/// and the number of lines.
-#[inline(always)]
-fn put_state(parser: &Parser<'_>, step: &mut Step)
-    ensures offset { step.new.offset ≡ position parser.now.input parser.now.rest }
-    ensures next_index { step.new.next_index ≡ parser.now.next }
-    ensures lines { step.new.lines ≡ length parser.now.line_spans }
-{
-    step.offset = parser.position();
-    step.next_index = parser.curarg();
-    step.lines = parser.line_spans().len();
-}
 
 /// A parser whose calls are written as records.
 #[derive(Drop)]

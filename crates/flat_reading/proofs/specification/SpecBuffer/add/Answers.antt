@@ -1,7 +1,7 @@
 use Rattle.std.proofs.Common.{ap, ◌∙◌, arith}
 use Rattle.flat_reading.proofs.Specs.{spec_at-put}
-use Rattle.flat_reading.proofs.flat.SpecBuffer.add.Goals as goal
-use Rattle.flat_reading.proofs.flat.SpecBuffer.add.Goals.{then-self, else-self}
+use Rattle.flat_reading.proofs.specification.SpecBuffer.add.Goals as goal
+use Rattle.flat_reading.proofs.specification.SpecBuffer.add.Goals.{then-self, else-self}
 
 pub returns-clause-described : goal.returns-clause-described
 returns-clause-described c = λ input at room. elim c.if-self.branch [
