@@ -60,5 +60,9 @@ pub extern "C" fn dephungo_read(
     let Ok(()) = read(alloc, request, buffers, answer) else {
         return NO_MEMORY;
     };
-    if buffers.fit(answer) { DONE } else { SHORT }
+    if buffers.has_room_for(answer) {
+        DONE
+    } else {
+        SHORT
+    }
 }

@@ -43,8 +43,8 @@ impl Buffers<'_> {
     ghost use Rattle.std.specs.Prelude.{IsFalse, IsTrue};
     ghost use Rattle.flat_reading.specs.Interface.{Fits, contents};
 
-    /// Returns whether all results that an answer counts fit into the buffers.
-    pub fn fit(&self, answer: &Answer) -> bool
+    /// Returns whether there is room for all results that an answer counts.
+    pub fn has_room_for(&self, answer: &Answer) -> bool
         ensures yes { IsTrue result → Fits (contents self.now) answer.now }
         ensures no { IsFalse result → ¬ (Fits (contents self.now) answer.now) }
     {
