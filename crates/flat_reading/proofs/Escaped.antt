@@ -83,8 +83,8 @@ same_count f g t Implied h = tt
 same_texts : (bytes : List ℕ) (x : Texts) (v w : World) (o : Option (Piece Span))
     (a b : Argument Place) → Some (NextArgument a) ≡ option_map (piece_in v) o
     → Some (NextArgument b) ≡ option_map (piece_in w) o
-    → PositionAt (text_at bytes x.text) a.position → SpecAt bytes x a.format
-    → PositionAt (text_at bytes x.text) b.position × SpecAt bytes x b.format
+    → PositionAt (text_at bytes x.name) a.position → SpecAt bytes x.format a.format
+    → PositionAt (text_at bytes x.name) b.position × SpecAt bytes x.format b.format
 same_texts bytes x v w None a b e f p h = cc
 same_texts bytes x v w (Some (Lit u)) a b e f p h = cc
 same_texts bytes x v w (Some (NextArgument c)) a b e f p h =
@@ -174,9 +174,9 @@ again arg (Some ArgumentKind) v w (Some (NextArgument b)) a e f = e
 -- The texts of the placeholder b stand where its spans say, and are those of the placeholder a.
 pub record Found (bytes : List ℕ) (a b : Argument Place) : Type 0 where
   pub stands : ArgumentStands bytes 2 b
-  pub same : (x : Texts) → PositionAt (text_at bytes x.text) b.position
-      → SpecAt bytes x b.format
-      → PositionAt (text_at bytes x.text) a.position × SpecAt bytes x a.format
+  pub same : (x : Texts) → PositionAt (text_at bytes x.name) b.position
+      → SpecAt bytes x.format b.format
+      → PositionAt (text_at bytes x.name) a.position × SpecAt bytes x.format a.format
 
 pub found : (bytes part : List ℕ) (mode : Mode) (start next : ℕ) (first s : State)
     (a : Argument Place) (arg : DeclaredArgument) (o : Option PieceKind)
@@ -198,7 +198,7 @@ found bytes part mode start next first s a arg o u read is fresh set piece =
       same = λ x p h. same_texts bytes x s.world read.world (next_call s).piece _ a too gives p h;
     }
 
--- The facts that a walker has of a call: where it begins, and the piece that it returns.
+-- The facts that a walk has of a call: where it begins, and the piece that it returns.
 pub read_at : (bytes : List ℕ) (s : State) (m : Option ParseMode) (start next : ℕ)
     (o : Option (Piece Place)) → IsUtf8 bytes → chars bytes ≡ s.input → EndsWith s.input s.rest
     → IfSome m (λ n. seen_mode n ≡ s.mode) → start ≡ position s.input s.rest → next ≡ s.next

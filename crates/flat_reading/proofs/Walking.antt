@@ -29,7 +29,7 @@ use Rattle.flat_reading.specs.Events.{step_meant}
 use Rattle.flat_reading.specs.ErrorRecords.{FinderList}
 use Rattle.flat_reading.specs.Progress.{Adds, AllFew, IsAdded, IsSeen, IsUpTo}
 use Rattle.flat_reading.proofs.Finding.{length-add_finders, length-after}
-use Rattle.flat_reading.proofs.Lists.{keep_more, keep_put, still_after}
+use Rattle.flat_reading.proofs.Lists.{kept_after, still_after}
 use Rattle.flat_reading.proofs.Specs.{spec_at-front}
 
 cut_at_end : (t : Text) (es : List State) → length t ≤ 0 → cond (is_nil t) [] es ≡ []
@@ -220,16 +220,6 @@ added_on m a b c e h k = record {
 }
 
 -- The records that were not written yet stay as they were.
-kept_after : {R : Type 0} (old new orig : List R) (count : ℕ)
-    → (count < length old → (r : R) × (new ≡ set old count r)) → (length old ≤ count → new ≡ old)
-    → drop count old ≡ drop count orig → drop (count + 1) new ≡ drop (count + 1) orig
-kept_after old new orig count put full h = by_room (cases_lt count (length old))
-  where
-    by_room : (count < length old) ⊎ (length old ≤ count) → drop (count + 1) new
-        ≡ drop (count + 1) orig
-    by_room (inl fits) = let (r, e) = put fits in rw e (keep_put old orig count r h)
-    by_room (inr past) = rw (full past) (keep_more old orig count h)
-
 pub kept_put : (input : List ℕ) (e : Event) (old new orig : List Step) (specs : List SpecRecord)
     (count used : ℕ)
     → IsAdded input e count used old new specs → drop count old ≡ drop count orig

@@ -18,9 +18,8 @@ use Rattle.flat_reading.specs.declared.specification.SpecBuffer.{SpecBuffer}
 use Rattle.flat_reading.specs.declared.records.Step.{Step}
 use Rattle.flat_reading.specs.declared.records.Peek.{Peek}
 use Rattle.flat_reading.specs.declared.records.Spec.{Spec as SpecRecord}
-use Rattle.flat_reading.specs.declared.texts.Texts.{Texts}
+use Rattle.flat_reading.specs.declared.texts.SpecTexts.{SpecTexts}
 use Rattle.flat_reading.specs.declared.reading.Reading.{Reading}
-use Rattle.flat_reading.specs.declared.walk.Walker.{Walker}
 use Rattle.flat_reading.specs.Events.{Event, add_finders, end_of, event, events, finders_from}
 use Rattle.flat_reading.specs.Events.{finders_of, fronts_in, fronts_of, given_piece, spec_count}
 use Rattle.flat_reading.specs.Events.{lookahead, lookaheads, peek_meant, specs_in}
@@ -129,7 +128,7 @@ CountAt t (Star n) = Unit {0}
 CountAt t Implied = Unit {0}
 
 -- The ranges in x hold the texts of the specification.
-pub record SpecAt {A : Type 0} (input : List ℕ) (x : Texts) (s : Spec A) : Type 0 where
+pub record SpecAt {A : Type 0} (input : List ℕ) (x : SpecTexts) (s : Spec A) : Type 0 where
   pub width : CountAt (text_at input x.width) s.width
   pub precision : CountAt (text_at input x.precision) s.precision
   pub ty : type_meant input x.type_kind x.ty ≡ s.ty
@@ -159,21 +158,22 @@ pub record Adds (n : ℕ) (old new : SpecBuffer) : Type 0 where
 
 -- The rest of the input is a suffix of the whole, and the places of the parser are those in the
 -- input, moved by the offset, or its mode is known.
-pub record IsOnItsWay (r : Reading) (w : Walker) : Type 0 where
+pub record IsOnItsWay (r : Reading) (s : State) : Type 0 where
   pub utf8 : IsUtf8 r.input.now
-  pub input : chars r.input.now ≡ w.parser.input
-  pub left : EndsWith w.parser.input w.parser.rest
-  pub plain : IfNone r.escapes (IsPlain w.parser r.offset)
-  pub mode : IfSome r.escapes (λ m. seen_mode m ≡ w.parser.mode)
+  pub input : chars r.input.now ≡ s.input
+  pub left : EndsWith s.input s.rest
+  pub plain : IfNone r.escapes (IsPlain s r.offset)
+  pub mode : IfSome r.escapes (λ m. seen_mode m ≡ s.mode)
 
--- The walker made the next call, which has this number, and recorded the errors that it found.
-pub record MakesCall (number : ℕ) (r : Reading) (old new : Walker) : Type 0 where
-  pub state : new.parser ≡ state_after old.parser (next_call old.parser)
+-- The parser made the next call, which has this number, and the errors that it found were recorded.
+pub record MakesCall (number : ℕ) (r : Reading) (old new : State)
+    (found more : FinderList) : Type 0 where
+  pub state : new ≡ state_after old (next_call old)
   pub ready : IsOnItsWay r new
-  pub finders : new.finders.calls
-      ≡ add_finders number old.finders.calls (next_call old.parser).faults
-  pub front_count : new.finders.front_count
-      ≡ old.finders.front_count + fronts_in (next_call old.parser)
+  pub finders : more.calls
+      ≡ add_finders number found.calls (next_call old).faults
+  pub front_count : more.front_count
+      ≡ found.front_count + fronts_in (next_call old)
 
 -- A step that describes the event was written at the index `count`, if there is room. By then
 -- `used` specifications are counted.

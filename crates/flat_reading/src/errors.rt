@@ -1,6 +1,6 @@
 //! Errors as records, with their texts in a buffer.
 
-ghost use Rattle.std.specs.Prelude.{◌≡◌, ◌+◌, ◌≤◌, drop, length, map, min, option_map};
+ghost use Rattle.std.specs.Prelude.{◌≡◌, ◌+◌, ◌<◌, ◌≤◌, drop, length, map, min, option_map, set};
 ghost use Rattle.std.specs.Prelude.{string_bytes, take};
 ghost use Rattle.rustc_parse_format.specs.Views.{pair, seen_error, seen_suggestion};
 ghost use Rattle.flat_reading.specs.declared.records.Fault.{Fault as FaultRecord};
@@ -9,7 +9,7 @@ ghost use Rattle.flat_reading.specs.ErrorRecords.{HoldsMaybe, HoldsSecond, Holds
 ghost use Rattle.flat_reading.specs.ErrorRecords.{maybe_len, message_len, second_len};
 ghost use Rattle.flat_reading.specs.ErrorRecords.{suggestion_len, texts_len};
 
-use crate::fields::{NOWHERE, extent};
+use crate::fields::{NOWHERE, put_extent};
 use crate::finders::Finders;
 use crate::records::{
     Extent, Fault, MEND_ADD_MISSING_COLON, MEND_NONE, MEND_REMOVE_RAW_IDENT,
@@ -18,201 +18,215 @@ use crate::records::{
 use rustc_parse_format::{ParseError, Suggestion};
 use std::ops::Range;
 
-/// Writes a text after the first `size` bytes of `texts` if it fits, and adds its length to `size`
-/// even if it does not. Returns its byte range there.
-fn put(texts: &mut [u8], size: &mut usize, text: &str) -> Extent
-    ensures grows { Grows texts.old texts.new size.old size.new }
-    ensures counted { size.new ≡ min (size.old + length text.now) usize.MAX }
-    ensures holds { size.new ≤ length texts.old
-        → Holds (take size.new texts.new) result.start result.end text.now }
+/// A record without an error.
+const BLANK: Fault = Fault {
+    has_note: 0,
+    has_second_label: 0,
+    suggestion: MEND_NONE,
+    description: NOWHERE,
+    note: NOWHERE,
+    label: NOWHERE,
+    span: NOWHERE,
+    second_label: NOWHERE,
+    second_span: NOWHERE,
+    suggestion_span: NOWHERE,
+    suggestion_text: NOWHERE,
+    step: 0,
+};
+
+/// Writes a text from the byte `start` of `texts` on if it fits there, and its byte range into
+/// `range`. Returns the end of that range even if it does not fit, or `usize::MAX` if that is less.
+fn put(texts: &mut [u8], start: usize, text: &str, range: &mut Extent) -> usize
+    ensures grows { Grows texts.old texts.new start result }
+    ensures counted { result ≡ min (start + length text.now) usize.MAX }
+    ensures holds { result ≤ length texts.old
+        → Holds (take result texts.new) range.new.start range.new.end text.now }
 {
-    let start = *size;
     let end = start.saturating_add(text.len());
-    *size = end;
+    range.start = start;
+    range.end = end;
     if end <= texts.len() {
         texts[start..end].copy_from_slice(text.as_bytes());
     }
-    Extent { start, end }
+    end
 }
 
-/// The record of a note.
-#[derive(Clone, Copy)]
-struct NoteRecord {
-    /// 1 if there is a note, and 0 if not.
-    has_text: u8,
-    /// The byte range of the note in the buffer for texts.
-    text: Extent,
-}
-
-/// Writes a note as `put` does, if there is one, and returns its record.
-fn put_note(texts: &mut [u8], size: &mut usize, note: &Option<String>) -> NoteRecord
-    requires { size.old ≤ usize.MAX }
-    ensures grows { Grows texts.old texts.new size.old size.new }
-    ensures counted { size.new
-        ≡ min (size.old + maybe_len (option_map string_bytes note.now)) usize.MAX }
-    ensures holds { size.new ≤ length texts.old
-        → HoldsMaybe (take size.new texts.new) result.has_text result.text
+/// Writes whether there is a note, and the note, if there is one, as `put` does.
+fn put_note(
+    texts: &mut [u8],
+    start: usize,
+    note: &Option<String>,
+    has_note: &mut u8,
+    range: &mut Extent,
+) -> usize
+    ensures grows { Grows texts.old texts.new start result }
+    ensures counted { result
+        ≡ min (start + maybe_len (option_map string_bytes note.now)) usize.MAX }
+    ensures holds { result ≤ length texts.old
+        → HoldsMaybe (take result texts.new) has_note.new range.new
         (option_map string_bytes note.now) }
 {
     match note {
-        Some(note) => NoteRecord {
-            has_text: 1,
-            text: put(texts, size, note.as_str()),
-        },
-        None => NoteRecord {
-            has_text: 0,
-            text: NOWHERE,
-        },
+        Some(note) => {
+            *has_note = 1;
+            put(texts, start, note.as_str(), range)
+        }
+        None => {
+            *has_note = 0;
+            start
+        }
     }
 }
 
-/// The record of a secondary label.
-#[derive(Clone, Copy)]
-struct SecondRecord {
-    /// 1 if there is a label, and 0 if not.
-    has_label: u8,
-    /// The byte range of the label in the buffer for texts.
-    label: Extent,
-    /// The byte range in the source that the label is for.
-    span: Extent,
-}
-
-/// The record of a suggestion.
-#[derive(Clone, Copy)]
-struct SuggestionRecord {
-    /// One of `MEND_..`.
-    kind: u32,
-    /// The byte range in the source that the suggestion is about.
-    span: Extent,
-    /// The byte range of its text in the buffer for texts.
-    text: Extent,
-}
-
-/// Writes a secondary label as `put` does, if there is one, and returns its record.
+/// Writes whether there is a secondary label, and the label and its span, if there is one, as `put`
+/// does.
 fn put_second(
     texts: &mut [u8],
-    size: &mut usize,
+    start: usize,
     second: &Option<(String, Range<usize>)>,
-) -> SecondRecord
-    requires { size.old ≤ usize.MAX }
-    ensures grows { Grows texts.old texts.new size.old size.new }
-    ensures counted { size.new
-        ≡ min (size.old + second_len (option_map (λ x. (string_bytes x.0, pair x.1)) second.now))
+    has_label: &mut u8,
+    range: &mut Extent,
+    span: &mut Extent,
+) -> usize
+    ensures grows { Grows texts.old texts.new start result }
+    ensures counted { result
+        ≡ min (start + second_len (option_map (λ x. (string_bytes x.0, pair x.1)) second.now))
         usize.MAX }
-    ensures holds { size.new ≤ length texts.old
-        → HoldsSecond (take size.new texts.new) result.has_label result.label result.span
+    ensures holds { result ≤ length texts.old
+        → HoldsSecond (take result texts.new) has_label.new range.new span.new
         (option_map (λ x. (string_bytes x.0, pair x.1)) second.now) }
 {
     match second {
-        Some((label, span)) => SecondRecord {
-            has_label: 1,
-            label: put(texts, size, label.as_str()),
-            span: extent(span),
-        },
-        None => SecondRecord {
-            has_label: 0,
-            label: NOWHERE,
-            span: NOWHERE,
-        },
+        Some((label, place)) => {
+            *has_label = 1;
+            put_extent(place, span);
+            put(texts, start, label.as_str(), range)
+        }
+        None => {
+            *has_label = 0;
+            start
+        }
     }
 }
 
-/// Returns the record of a suggestion that has no text.
-fn bare_suggestion(kind: u32, span: Extent) -> SuggestionRecord
-    ensures { result ≡ record { kind = kind; span = span; text = record { start = 0; end = 0 } } }
-{
-    SuggestionRecord {
-        kind,
-        span,
-        text: NOWHERE,
-    }
-}
-
-/// Writes the text of a suggestion as `put` does, if it has one, and returns its record.
-fn put_suggestion(texts: &mut [u8], size: &mut usize, suggestion: &Suggestion) -> SuggestionRecord
-    requires { size.old ≤ usize.MAX }
-    ensures grows { Grows texts.old texts.new size.old size.new }
-    ensures counted { size.new
-        ≡ min (size.old + suggestion_len (seen_suggestion suggestion.now)) usize.MAX }
-    ensures holds { size.new ≤ length texts.old
-        → HoldsSuggestion (take size.new texts.new) result.kind result.span result.text
+/// Writes the kind of a suggestion, and the span and the text that it has, as `put` does.
+fn put_suggestion(
+    texts: &mut [u8],
+    start: usize,
+    suggestion: &Suggestion,
+    kind: &mut u32,
+    span: &mut Extent,
+    range: &mut Extent,
+) -> usize
+    ensures grows { Grows texts.old texts.new start result }
+    ensures counted { result
+        ≡ min (start + suggestion_len (seen_suggestion suggestion.now)) usize.MAX }
+    ensures holds { result ≤ length texts.old
+        → HoldsSuggestion (take result texts.new) kind.new span.new range.new
         (seen_suggestion suggestion.now) }
 {
     match suggestion {
-        Suggestion::None => bare_suggestion(MEND_NONE, NOWHERE),
-        Suggestion::UsePositional => bare_suggestion(MEND_USE_POSITIONAL, NOWHERE),
-        Suggestion::RemoveRawIdent(span) => bare_suggestion(MEND_REMOVE_RAW_IDENT, extent(span)),
-        Suggestion::ReorderFormatParameter(span, text) => SuggestionRecord {
-            kind: MEND_REORDER_FORMAT_PARAMETER,
-            span: extent(span),
-            text: put(texts, size, text.as_str()),
-        },
-        Suggestion::AddMissingColon(span) => bare_suggestion(MEND_ADD_MISSING_COLON, extent(span)),
-        Suggestion::UseRustDebugPrintingMacro => {
-            bare_suggestion(MEND_USE_RUST_DEBUG_PRINTING_MACRO, NOWHERE)
+        Suggestion::None => *kind = MEND_NONE,
+        Suggestion::UsePositional => *kind = MEND_USE_POSITIONAL,
+        Suggestion::RemoveRawIdent(place) => {
+            *kind = MEND_REMOVE_RAW_IDENT;
+            put_extent(place, span);
         }
+        Suggestion::ReorderFormatParameter(place, text) => {
+            *kind = MEND_REORDER_FORMAT_PARAMETER;
+            put_extent(place, span);
+            return put(texts, start, text.as_str(), range);
+        }
+        Suggestion::AddMissingColon(place) => {
+            *kind = MEND_ADD_MISSING_COLON;
+            put_extent(place, span);
+        }
+        Suggestion::UseRustDebugPrintingMacro => *kind = MEND_USE_RUST_DEBUG_PRINTING_MACRO,
     }
+    start
 }
 
-/// Returns the record of an error that was found by the step with the index `step`, and writes its
-/// texts as `put` does.
-fn put_error(texts: &mut [u8], size: &mut usize, error: &ParseError, step: usize) -> Fault
-    ensures grows { Grows texts.old texts.new size.old size.new }
-    ensures counted { size.new ≡ min (size.old + message_len (seen_error error.now)) usize.MAX }
-    ensures holds { size.new ≤ length texts.old
-        → HoldsError (take size.new texts.new) result (seen_error error.now) }
-    ensures step { result.step ≡ step }
+/// Writes an error that was found by the step with the index `step` over a record, and its texts
+/// as `put` does. It is no part of `put_errors`, which is inlined.
+#[inline(never)]
+fn put_error(
+    texts: &mut [u8],
+    start: usize,
+    error: &ParseError,
+    step: usize,
+    fault: &mut Fault,
+) -> usize
+    ensures grows { Grows texts.old texts.new start result }
+    ensures counted { result ≡ min (start + message_len (seen_error error.now)) usize.MAX }
+    ensures holds { result ≤ length texts.old
+        → HoldsError (take result texts.new) fault.new (seen_error error.now) }
+    ensures step { fault.new.step ≡ step }
 {
-    let description = put(texts, size, error.description.as_str());
-    let note = put_note(texts, size, &error.note);
-    let label = put(texts, size, error.label.as_str());
-    let second = put_second(texts, size, &error.secondary_label);
-    let suggestion = put_suggestion(texts, size, &error.suggestion);
-    Fault {
-        has_note: note.has_text,
-        has_second_label: second.has_label,
-        suggestion: suggestion.kind,
-        description,
-        note: note.text,
-        label,
-        span: extent(&error.span),
-        second_label: second.label,
-        second_span: second.span,
-        suggestion_span: suggestion.span,
-        suggestion_text: suggestion.text,
-        step,
-    }
+    put_extent(&error.span, &mut fault.span);
+    fault.step = step;
+    let description = error.description.as_str();
+    let end = put(texts, start, description, &mut fault.description);
+    let end = put_note(
+        texts,
+        end,
+        &error.note,
+        &mut fault.has_note,
+        &mut fault.note,
+    );
+    let end = put(texts, end, error.label.as_str(), &mut fault.label);
+    let end = put_second(
+        texts,
+        end,
+        &error.secondary_label,
+        &mut fault.has_second_label,
+        &mut fault.second_label,
+        &mut fault.second_span,
+    );
+    put_suggestion(
+        texts,
+        end,
+        &error.suggestion,
+        &mut fault.suggestion,
+        &mut fault.suggestion_span,
+        &mut fault.suggestion_text,
+    )
 }
 
-/// Writes the records of the errors and their texts as `put_errors` does. It is no part of that
-/// function, which is inlined, so that an input without errors takes no room for a record.
+/// Writes the texts of an error whose record does not fit, as `put` does.
 #[cold]
 #[inline(never)]
-fn put_records(
-    errors: &[ParseError],
-    finders: &Finders,
-    faults: &mut [Fault],
-    texts: &mut [u8],
-) -> usize
-    requires { length finders.now.calls ≡ length errors.now }
-    ensures holds { result ≤ length texts.old → length errors.now ≤ length faults.old
-        → HoldsErrors texts.new (take (length errors.now) faults.new) (map seen_error errors.now) }
-    ensures found { length errors.now ≤ length faults.old
-        → map (λ (f : FaultRecord). f.step) (take (length errors.now) faults.new)
-        ≡ finders.now.calls }
-    ensures counted { result ≡ min (texts_len (map seen_error errors.now)) usize.MAX }
-    ensures kept_texts { drop result texts.new ≡ drop result texts.old }
-    ensures kept_faults { drop (length errors.now) faults.new
-        ≡ drop (length errors.now) faults.old }
+fn put_texts(texts: &mut [u8], start: usize, error: &ParseError) -> usize
+    ensures grows { Grows texts.old texts.new start result }
+    ensures counted { result ≡ min (start + message_len (seen_error error.now)) usize.MAX }
 {
-    let mut size = 0;
-    for i in 0..errors.len() {
-        let fault = put_error(texts, &mut size, &errors[i], finders.get(i));
-        if i < faults.len() {
-            faults[i] = fault;
-        }
+    let mut spare = BLANK;
+    put_error(texts, start, error, 0, &mut spare)
+}
+
+/// Writes an error that was found by the step with the index `step` over the record with the index
+/// `index`, if there is one, and its texts as `put` does.
+#[inline(always)]
+fn add_error(
+    texts: &mut [u8],
+    start: usize,
+    error: &ParseError,
+    step: usize,
+    index: usize,
+    faults: &mut [Fault],
+) -> usize
+    ensures grows { Grows texts.old texts.new start result }
+    ensures counted { result ≡ min (start + message_len (seen_error error.now)) usize.MAX }
+    ensures written { index < length faults.old
+        → (f : FaultRecord) × ((faults.new ≡ set faults.old index f) × ((f.step ≡ step)
+        × (result ≤ length texts.old
+        → HoldsError (take result texts.new) f (seen_error error.now)))) }
+    ensures full { length faults.old ≤ index → faults.new ≡ faults.old }
+{
+    if index < faults.len() {
+        put_error(texts, start, error, step, &mut faults[index])
+    } else {
+        put_texts(texts, start, error)
     }
-    size
 }
 
 /// Writes the records of the errors and their texts, as far as they fit. Returns the length of all
@@ -235,8 +249,9 @@ pub fn put_errors(
     ensures kept_faults { drop (length errors.now) faults.new
         ≡ drop (length errors.now) faults.old }
 {
-    if errors.is_empty() {
-        return 0;
+    let mut size = 0;
+    for i in 0..errors.len() {
+        size = add_error(texts, size, &errors[i], finders.get(i), i, faults);
     }
-    put_records(errors, finders, faults, texts)
+    size
 }

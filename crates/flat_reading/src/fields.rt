@@ -10,16 +10,6 @@ use std::ops::Range;
 /// The byte range in a record that has none.
 pub const NOWHERE: Extent = Extent { start: 0, end: 0 };
 
-/// Returns a byte range as a record.
-pub fn extent(range: &Range<usize>) -> Extent
-    ensures { place_meant result ≡ pair range.now }
-{
-    Extent {
-        start: range.start,
-        end: range.end,
-    }
-}
-
 /// Writes a byte range. (Each field is copied by itself: a copy of both at once would wait for the
 /// two that the parser has just written.)
 #[inline(always)]
@@ -30,7 +20,7 @@ pub fn put_extent(range: &Range<usize>, record: &mut Extent)
     record.end = range.end;
 }
 
-/// Writes a byte range, or none: then the number before it is 0, and `record` stays as it is.
+/// Writes a byte range, or none: then `has_range` is 0, and `record` is as before.
 #[inline(always)]
 pub fn put_maybe_extent(range: &Option<Range<usize>>, has_range: &mut u8, record: &mut Extent)
     ensures { maybe_place has_range.new record.new ≡ option_map pair range.now }

@@ -196,13 +196,13 @@ impl Finders {
         ensures front_count { OnOk result (self.new.front_count
             ≡ self.old.front_count + front_count) }
     {
-        if let Some(lists) = &mut self.lists {
-            return lists.add(number, front_count, back_count);
+        if self.lists.is_none() {
+            self.lists = Some(Lists::new(alloc));
         }
-        let mut lists = Lists::new(alloc);
-        lists.add(number, front_count, back_count)?;
-        self.lists = Some(lists);
-        Ok(())
+        match &mut self.lists {
+            Some(lists) => lists.add(number, front_count, back_count),
+            None => unreachable!(),
+        }
     }
 
     /// Adds the call `number`, which found `count` errors, of which `front_count` were put at the

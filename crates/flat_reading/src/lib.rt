@@ -2,6 +2,7 @@
 //! exports it to C. If a buffer is too short, the length needed is still counted.
 #![tactic(auto)]
 
+mod end;
 mod errors;
 mod fields;
 mod finders;

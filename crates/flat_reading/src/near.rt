@@ -9,7 +9,7 @@ ghost use Rattle.flat_reading.specs.Progress.{IsListed, IsReadAt, PositionAt, Sp
 
 use crate::fields::NOWHERE;
 use crate::records::Extent;
-use crate::texts::{Texts, extent_of, has_bytes_at, has_texts, listed_type, texts_at};
+use crate::texts::{Texts, bare_texts, extent_of, has_bytes_at, has_texts, texts_at};
 use rustc_parse_format::{Argument, ParseMode, Position};
 use std::alloc::{AllocError, Global};
 
@@ -42,20 +42,18 @@ fn near_name(input: &str, start: usize, argument: &Argument<'_>) -> Option<Exten
 fn near_texts(input: &str, start: usize, argument: &Argument<'_>) -> Option<Texts>
     requires { is_some (seen_spec argument.now.format).ty_span ≡ false
         → IsListed (chars argument.now.format.ty.now) }
-    ensures position { IfSome result (λ x. PositionAt (text_at input.now x.text)
+    ensures position { IfSome result (λ x. PositionAt (text_at input.now x.name)
         (seen_position argument.now.position)) }
-    ensures format { IfSome result (λ x. SpecAt input.now x (seen_spec argument.now.format)) }
+    ensures format { IfSome result (λ x. SpecAt input.now x.format
+        (seen_spec argument.now.format)) }
 {
-    if has_texts(argument) {
+    if has_texts(&argument.format) {
         return None;
     }
-    let text = near_name(input, start, argument)?;
+    let name = near_name(input, start, argument)?;
     Some(Texts {
-        text,
-        width: NOWHERE,
-        precision: NOWHERE,
-        type_kind: listed_type(argument.format.ty),
-        ty: NOWHERE,
+        name,
+        format: bare_texts(&argument.format),
     })
 }
 
@@ -73,9 +71,9 @@ pub fn texts_of(
 ) -> Result<Texts, AllocError>
     requires read { IsReadAt input.now (seen_mode mode) next start
         (Some (NextArgument (seen_argument argument.now))) }
-    ensures { IfOk result (λ x. PositionAt (text_at input.now x.text)
+    ensures { IfOk result (λ x. PositionAt (text_at input.now x.name)
         (seen_position argument.now.position)
-        × SpecAt input.now x (seen_spec argument.now.format)) }
+        × SpecAt input.now x.format (seen_spec argument.now.format)) }
 {
     match near_texts(input, start, argument) {
         Some(texts) => Ok(texts),

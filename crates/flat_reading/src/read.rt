@@ -11,11 +11,12 @@ ghost use Rattle.flat_reading.specs.Progress.{IsPlain};
 
 use crate::errors::put_errors;
 use crate::fields::{flag, put_extent};
+use crate::finders::Finders;
 use crate::reading::{Reading, mode_with_escapes, offset_of};
 use crate::records::{Answer, Extent, Fault, Peek, Spec, Step};
 use crate::specification::SpecBuffer;
 use crate::task::Task;
-use crate::walk::Walker;
+use crate::walk::walk;
 use rustc_parse_format::{ParseMode, Parser};
 use std::alloc::{AllocError, Global};
 use std::ops::Range;
@@ -83,7 +84,7 @@ fn put_lines(spans: &[Range<usize>], lines: &mut [Extent])
 
 /// Reads an input to its end with a parser that is at its start, and writes the results as `read`
 /// does. `offset` and `escapes` are those of a `Reading`. They are given, as the parser is, so that
-/// no branch comes before the walker is made: the compiler then writes each of its fields once.
+/// no branch comes before it is in its place: the compiler then writes each of its fields once.
 /// Returns `Err` if an allocation fails, and `answer` is then unchanged.
 #[inline(always)]
 fn read_by<'a>(
@@ -110,20 +111,29 @@ fn read_by<'a>(
     ensures err { OnErr result (answer.new ≡ answer.old) }
 {
     let is_source_literal = flag(start.is_source_literal());
-    let mut walker = Walker::new(alloc, start);
+    let mut parser = start;
+    let mut finders = Finders::new();
     let reading = Reading::new(task.input, offset, escapes);
     let mut specs = SpecBuffer::new(buffers.specs);
-    let count = walker.walk(&reading, buffers.steps, &mut specs, buffers.peeks)?;
-    let errors = walker.parser.errors();
-    let spans = walker.parser.line_spans();
+    let count = walk(
+        alloc,
+        &mut parser,
+        &mut finders,
+        &reading,
+        buffers.steps,
+        &mut specs,
+        buffers.peeks,
+    )?;
+    let errors = parser.errors();
+    let spans = parser.line_spans();
     put_lines(spans, buffers.lines);
     // (field by field, since a copy of a record also copies what lies between its fields)
     answer.steps = count;
     answer.specs = specs.count();
     answer.faults = errors.len();
-    answer.texts = put_errors(errors, &walker.finders, buffers.faults, buffers.texts);
+    answer.texts = put_errors(errors, &finders, buffers.faults, buffers.texts);
     answer.lines = spans.len();
-    answer.front_faults = walker.finders.front_count();
+    answer.front_faults = finders.front_count();
     answer.is_source_literal = is_source_literal;
     Ok(())
 }

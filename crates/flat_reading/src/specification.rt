@@ -17,7 +17,7 @@ use crate::records::{
     COUNT_IS_PARAM, COUNT_IS_STAR, Extent, HEX_LOWER, HEX_NONE, HEX_UPPER, NO_FILL, SIGN_MINUS,
     SIGN_NONE, SIGN_PLUS, Spec, TYPE_TEXT,
 };
-use crate::texts::Texts;
+use crate::texts::SpecTexts;
 use rustc_parse_format::{Alignment, Count, DebugHex, FormatSpec, Sign};
 
 /// Returns the code of a fill character, or `NO_FILL`.
@@ -106,7 +106,7 @@ fn put_count(
 /// Writes a specification over a record. `texts` has the byte ranges of its texts in the input.
 #[tactic(auto, unfolding(crate::specs::Meaning::spec_meant))]
 #[inline(always)]
-fn put_spec(spec: &FormatSpec<'_>, texts: &Texts, record: &mut Spec)
+fn put_spec(spec: &FormatSpec<'_>, texts: &SpecTexts, record: &mut Spec)
     ensures { (input : List ℕ) → SpecAt input texts.now (seen_spec spec.now)
         → spec_meant input record.new ≡ seen_spec spec.now }
 {
@@ -231,7 +231,7 @@ impl<'a> SpecBuffer<'a> {
 
     /// Adds a specification, which is written if it fits, and returns its number, from 1.
     #[inline(always)]
-    pub fn add(&mut self, spec: &FormatSpec<'_>, texts: &Texts) -> usize
+    pub fn add(&mut self, spec: &FormatSpec<'_>, texts: &SpecTexts) -> usize
         requires room { self.old.count < usize.MAX }
         ensures described { (input : List ℕ) → SpecAt input texts.now (seen_spec spec.now)
             → self.new.count ≤ length self.old.records.now

@@ -9,9 +9,24 @@ ghost use Rattle.flat_reading.specs.Events.{place_of_first, position};
 ghost use Rattle.flat_reading.specs.Meaning.{maybe_place};
 ghost use Rattle.flat_reading.specs.Progress.{IsSeen};
 
-use crate::fields::put_extent;
-use crate::records::{Extent, Peek, Step};
+use crate::fields::{NOWHERE, put_extent};
+use crate::records::{Extent, PIECE_NONE, POSITION_IMPLICIT, Peek, Step};
 use rustc_parse_format::Parser;
+
+/// A step without a piece and without a state.
+pub const BLANK: Step = Step {
+    kind: PIECE_NONE,
+    position: POSITION_IMPLICIT,
+    number: 0,
+    text: NOWHERE,
+    position_span: NOWHERE,
+    spec: 0,
+    has_place: 0,
+    place: NOWHERE,
+    offset: 0,
+    next_index: 0,
+    lines: 0,
+};
 
 /// Writes the byte ranges in the source of the next two characters.
 #[inline(never)]

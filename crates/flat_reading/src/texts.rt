@@ -1,17 +1,17 @@
 //! The byte ranges of a piece's texts in the input.
 
 ghost use Rattle.std.specs.Prelude.{◌≡◌, ℕ, ◌-◌, IfOk, IsFalse, IsTrue, List, Some};
-ghost use Rattle.std.specs.Prelude.{chars, false, is_some, option_map};
-ghost use Rattle.rustc_parse_format.specs.Views.{pair, seen_argument, seen_count, seen_mode};
+ghost use Rattle.std.specs.Prelude.{chars, codes, false, is_some, option_map};
+ghost use Rattle.rustc_parse_format.specs.Views.{pair, seen_count, seen_mode};
 ghost use Rattle.rustc_parse_format.specs.Views.{seen_position, seen_spec};
 ghost use Rattle.rustc_parse_format.specs.Types.{Argument as ReadArgument, NextArgument};
 ghost use Rattle.rustc_parse_format.specs.World.{Place};
 ghost use Rattle.flat_reading.specs.declared.records.Extent.{Extent as ExtentRecord};
 ghost use Rattle.flat_reading.specs.Meaning.{run_at, text_at, type_meant};
-ghost use Rattle.flat_reading.specs.Progress.{ArgumentStands, CountAt, CountStands, HasBytes};
+ghost use Rattle.flat_reading.specs.Progress.{CountAt, CountStands, HasBytes};
 ghost use Rattle.flat_reading.specs.Progress.{IsLast};
 ghost use Rattle.flat_reading.specs.Progress.{IsListed, IsReadAt, PositionAt, PositionStands};
-ghost use Rattle.flat_reading.specs.Progress.{SpecAt};
+ghost use Rattle.flat_reading.specs.Progress.{SpecAt, SpecStands};
 ghost use Rattle.flat_reading.specs.Progress.{StandsAt, StandsAfter, TypeStands, has_texts};
 
 use crate::fields::NOWHERE;
@@ -19,11 +19,9 @@ use crate::records::{Extent, TYPE_DEBUG, TYPE_LOWER_HEX, TYPE_NONE, TYPE_TEXT, T
 use rustc_parse_format::{Argument, Count, FormatSpec, ParseMode, Parser, Position};
 use std::alloc::{AllocError, Global};
 
-/// The byte ranges of a placeholder's texts in the input, and the kind of its type.
+/// The byte ranges of a specification's texts in the input, and the kind of its type.
 #[derive(Clone, Copy)]
-pub struct Texts {
-    /// The name of the argument.
-    pub text: Extent,
+pub struct SpecTexts {
     /// The name of the width.
     pub width: Extent,
     /// The name of the precision.
@@ -34,14 +32,23 @@ pub struct Texts {
     pub ty: Extent,
 }
 
-/// Returns whether the specification of a placeholder has a text that is found by its span: a name,
-/// or a type with a span.
-pub fn has_texts(argument: &Argument<'_>) -> bool
-    ensures { result ≡ has_texts (seen_spec argument.now.format) }
+/// The byte ranges of a placeholder's texts in the input.
+#[derive(Clone, Copy)]
+pub struct Texts {
+    /// The name of the argument.
+    pub name: Extent,
+    /// The texts of its specification.
+    pub format: SpecTexts,
+}
+
+/// Returns whether a specification has a text that is found by its span: a name, or a type with a
+/// span.
+pub fn has_texts(format: &FormatSpec<'_>) -> bool
+    ensures { result ≡ has_texts (seen_spec format.now) }
 {
-    matches!(argument.format.width, Count::CountIsName(_, _))
-        || matches!(argument.format.precision, Count::CountIsName(_, _))
-        || argument.format.ty_span.is_some()
+    matches!(format.width, Count::CountIsName(_, _))
+        || matches!(format.precision, Count::CountIsName(_, _))
+        || format.ty_span.is_some()
 }
 
 /// Returns the byte range of a text that begins at `start`. For an empty text this is 0..0, so that
@@ -91,6 +98,17 @@ fn extent_after(input: &str, prefix: &[u8], start: usize, text: &str) -> Extent
     }
 }
 
+/// Returns the byte range of a name that begins at `start`, or after an `r#` there. It is no part
+/// of `name_extent`, which is inlined: few names are raw.
+#[cold]
+#[inline(never)]
+fn raw_extent(input: &str, start: usize, name: &str) -> Extent
+    requires { StandsAfter input.now (codes "r#") start (chars name.now) }
+    ensures { text_at input.now result ≡ chars name.now }
+{
+    extent_after(input, b"r#", start, name)
+}
+
 /// Returns the byte range of the name of a count in the input, or 0..0 if it has no name.
 #[inline(always)]
 fn count_extent(input: &str, offset: usize, count: &Count<'_>) -> Extent
@@ -106,7 +124,7 @@ fn count_extent(input: &str, offset: usize, count: &Count<'_>) -> Extent
 }
 
 /// Returns the kind of a type that has no span.
-pub fn listed_type(ty: &str) -> u8
+fn listed_type(ty: &str) -> u8
     ensures { (r : ExtentRecord) → IsListed (chars ty.now) → (input : List ℕ)
         → type_meant input result r ≡ chars ty.now }
 {
@@ -145,26 +163,41 @@ pub fn name_extent(input: &str, offset: usize, argument: &Argument<'_>) -> Exten
     match &argument.position {
         Position::ArgumentNamed(name) => {
             let start = argument.position_span.start.saturating_sub(offset);
-            extent_after(input, b"r#", start, name)
+            // (most names have no `r#` before them, and the second byte shows it at once)
+            if has_bytes_at(input, start.saturating_add(1), b"#") {
+                raw_extent(input, start, name)
+            } else {
+                extent_of(input, start, name)
+            }
         }
         _ => NOWHERE,
     }
 }
 
-/// Returns the byte ranges in the input of an argument's name and of the texts of its
-/// specification. The spans of the argument are `offset` bytes after these.
+/// Returns the byte ranges of the texts of a specification that has none that is found by its span.
 #[inline(always)]
-pub fn argument_texts(input: &str, offset: usize, argument: &Argument<'_>) -> Texts
-    requires { ArgumentStands input.now offset (seen_argument argument.now) }
-    ensures position { PositionAt (text_at input.now result.text)
-        (seen_position argument.now.position) }
-    ensures format { SpecAt input.now result (seen_spec argument.now.format) }
+pub fn bare_texts(format: &FormatSpec<'_>) -> SpecTexts
+    requires none { has_texts (seen_spec format.now) ≡ false }
+    requires listed { IsListed (chars format.now.ty.now) }
+    ensures { (input : List ℕ) → SpecAt input result (seen_spec format.now) }
 {
-    let text = name_extent(input, offset, argument);
-    let format = &argument.format;
+    SpecTexts {
+        width: NOWHERE,
+        precision: NOWHERE,
+        type_kind: listed_type(format.ty),
+        ty: NOWHERE,
+    }
+}
+
+/// Returns the byte ranges in the input of the texts of a specification, whose spans are `offset`
+/// bytes after these.
+#[inline(always)]
+pub fn spec_texts(input: &str, offset: usize, format: &FormatSpec<'_>) -> SpecTexts
+    requires { SpecStands input.now offset (seen_spec format.now) }
+    ensures { SpecAt input.now result (seen_spec format.now) }
+{
     let (type_kind, ty) = type_extent(input, offset, format);
-    Texts {
-        text,
+    SpecTexts {
         width: count_extent(input, offset, &format.width),
         precision: count_extent(input, offset, &format.precision),
         type_kind,
@@ -203,11 +236,14 @@ pub fn texts_at(
         × IsReadAt input.now (seen_mode mode) next start (Some (NextArgument a)) }
     ensures { IfOk result (λ x. (a : ReadArgument Place)
         → IsReadAt input.now (seen_mode mode) next start (Some (NextArgument a))
-        → PositionAt (text_at input.now x.text) a.position × SpecAt input.now x a.format) }
+        → PositionAt (text_at input.now x.name) a.position × SpecAt input.now x.format a.format) }
 {
     let mut parser = Parser::new(alloc, &input[start..], Some(start), None, false, mode)?;
     parser.set_curarg(next);
     let mut argument = Argument::default();
     let _next = parser.next_into(&mut argument)?;
-    Ok(argument_texts(input, 2, &argument))
+    Ok(Texts {
+        name: name_extent(input, 2, &argument),
+        format: spec_texts(input, 2, &argument.format),
+    })
 }

@@ -6,11 +6,11 @@ pub returns-then-end-texts-clause-grows : goal.returns-then-end-texts-clause-gro
 returns-then-end-texts-clause-grows c =
     let fit = c.if-end-texts.true in
     let sum = c.saturating_add-end.ensures in
-    let forward : c.args.size.now ≤ c.saturating_add-end.result = omega (arith, sum) in
-    let size : length c.copy_from_slice.new.self ≡ c.saturating_add-end.result - c.args.size.now =
+    let forward : c.args.start ≤ c.saturating_add-end.result = omega (arith, sum) in
+    let size : length c.copy_from_slice.new.self ≡ c.saturating_add-end.result - c.args.start =
     c.copy_from_slice.ensures.len
-    ∙ length-take-le _ _ (omega (arith, length-drop c.args.size.now c.args.texts.now)) in
-    put_grows c.args.texts.now c.copy_from_slice.new.self c.args.size.now
+    ∙ length-take-le _ _ (omega (arith, length-drop c.args.start c.args.texts.now)) in
+    put_grows c.args.texts.now c.copy_from_slice.new.self c.args.start
     c.saturating_add-end.result
     forward fit size
 
@@ -18,10 +18,10 @@ pub returns-then-end-texts-clause-holds : goal.returns-then-end-texts-clause-hol
 returns-then-end-texts-clause-holds c = λ _.
     let fit = c.if-end-texts.true in
     let sum = c.saturating_add-end.ensures in
-    let forward : c.args.size.now ≤ c.saturating_add-end.result = omega (arith, sum) in
-    let size : length c.copy_from_slice.new.self ≡ c.saturating_add-end.result - c.args.size.now =
+    let forward : c.args.start ≤ c.saturating_add-end.result = omega (arith, sum) in
+    let size : length c.copy_from_slice.new.self ≡ c.saturating_add-end.result - c.args.start =
     c.copy_from_slice.ensures.len
-    ∙ length-take-le _ _ (omega (arith, length-drop c.args.size.now c.args.texts.now)) in
-    put_holds c.args.texts.now c.copy_from_slice.new.self c.args.text.now c.args.size.now
+    ∙ length-take-le _ _ (omega (arith, length-drop c.args.start c.args.texts.now)) in
+    put_holds c.args.texts.now c.copy_from_slice.new.self c.args.text.now c.args.start
     c.saturating_add-end.result forward fit size
     (c.copy_from_slice.ensures.after ∙ c.as_bytes.ensures.value)

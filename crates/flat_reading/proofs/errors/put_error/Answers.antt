@@ -6,15 +6,15 @@ use Rattle.flat_reading.proofs.errors.put_error.Goals as goal
 
 pub returns : goal.returns
 returns c =
-    let one = c.put-description.ensures.grows in
-    let two = c.put_note-note.ensures.grows in
-    let three = c.put-label.ensures.grows in
-    let four = c.put_second-second.ensures.grows in
-    let five = c.put_suggestion-suggestion.ensures.grows in
+    let one = c.put-end.ensures.grows in
+    let two = c.put_note-end.ensures.grows in
+    let three = c.put-end-2.ensures.grows in
+    let four = c.put_second-end.ensures.grows in
+    let five = c.put_suggestion.ensures.grows in
     let f2 = two.forward in let f3 = three.forward in let f4 = four.forward in
     let f5 = five.forward in
-    let a1 = c.put-description.auto.texts in let a2 = c.put_note-note.auto.texts in
-    let a3 = c.put-label.auto.texts in let a4 = c.put_second-second.auto.texts in
+    let a1 = c.put-end.auto.texts in let a2 = c.put_note-end.auto.texts in
+    let a3 = c.put-end-2.auto.texts in let a4 = c.put_second-end.auto.texts in
     let after_four = five in
     let after_three = Grows-trans _ _ _ _ _ _ a4 four after_four in
     let after_two = Grows-trans _ _ _ _ _ _ a3 three after_three in
@@ -24,41 +24,41 @@ returns c =
       grows = all;
       counted = omega (
         arith,
-        c.put-description.ensures.counted,
-        c.put_note-note.ensures.counted,
-        c.put-label.ensures.counted,
-        c.put_second-second.ensures.counted,
-        c.put_suggestion-suggestion.ensures.counted,
+        c.put-end.ensures.counted,
+        c.put_note-end.ensures.counted,
+        c.put-end-2.ensures.counted,
+        c.put_second-end.ensures.counted,
+        c.put_suggestion.ensures.counted,
+        ap length c.as_str-description.ensures.value,
         ap length c.as_str.ensures.value,
-        ap length c.as_str-2.ensures.value,
       );
       holds = λ fit. record {
-        description = Holds-is _ _ _ _ _ c.as_str.ensures.value
+        description = Holds-is _ _ _ _ _ c.as_str-description.ensures.value
             (Holds-grow _ _ _ _ _ (after_one.front (omega (
               arith,
               a1,
-            ))) (c.put-description.ensures.holds (omega arith)));
-        note = HoldsMaybe-grow _ _ c.put_note-note.result.has_text c.put_note-note.result.text _
+            ))) (c.put-end.ensures.holds (omega arith)));
+        note = HoldsMaybe-grow _ _ c.put_note-end.new.has_note c.put_note-end.new.range _
             (after_two.front (omega (arith, a1, a2)))
-            (c.put_note-note.ensures.holds (omega (arith, a1)));
-        label = Holds-is _ _ _ _ _ c.as_str-2.ensures.value
+            (c.put_note-end.ensures.holds (omega (arith, a1)));
+        label = Holds-is _ _ _ _ _ c.as_str.ensures.value
             (Holds-grow _ _ _ _ _ (after_three.front (omega (
               arith,
               a1,
               a2,
               a3,
-            ))) (c.put-label.ensures.holds (omega (arith, a1, a2))));
-        span = c.extent.ensures;
-        second = HoldsSecond-grow _ _ c.put_second-second.result.has_label
-            c.put_second-second.result.label c.put_second-second.result.span _
+            ))) (c.put-end-2.ensures.holds (omega (arith, a1, a2))));
+        span = c.put_extent.ensures;
+        second = HoldsSecond-grow _ _ c.put_second-end.new.has_label
+            c.put_second-end.new.range c.put_second-end.new.span _
             (after_four.front (omega (
               arith,
               a1,
               a2,
               a3,
               a4,
-            ))) (c.put_second-second.ensures.holds (omega (arith, a1, a2, a3)));
-        suggestion = c.put_suggestion-suggestion.ensures.holds (omega (arith, a1, a2, a3, a4));
+            ))) (c.put_second-end.ensures.holds (omega (arith, a1, a2, a3)));
+        suggestion = c.put_suggestion.ensures.holds (omega (arith, a1, a2, a3, a4));
       };
       step = refl;
     }

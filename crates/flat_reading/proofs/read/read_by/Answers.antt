@@ -8,29 +8,24 @@ use Rattle.flat_reading.proofs.read.read_by.Goals as goal
 
 pub walk-requires-clause-small : goal.walk-requires-clause-small
 walk-requires-clause-small c =
-    omega (
-      arith,
-      ap (λ (s : State). length s.rest) c.new-walker.ensures.parser,
-      c.requires.short,
-      c.requires.input_length,
-    )
+    omega (arith, c.requires.short, c.requires.input_length)
 
 pub walk-requires-clause-ready : goal.walk-requires-clause-ready
 walk-requires-clause-ready c =
-    let e = c.new-walker.ensures.parser ∙ c.requires.start in
+    let e = c.requires.start in
     let r = c.new-reading.ensures in
     record {
       utf8 = r.utf8;
       input = ap chars r.input ∙ sym (ap (λ (s : State). s.input) e);
       left = ([], ap (λ (s : State). s.input) e ∙ sym (ap (λ (s : State). s.rest) e));
-      plain = rw (r.escapes, r.offset, c.new-walker.ensures.parser) c.requires.plain;
-      mode = rw (r.escapes, c.new-walker.ensures.parser) c.requires.mode;
+      plain = rw (r.escapes, r.offset) c.requires.plain;
+      mode = rw r.escapes c.requires.mode;
     }
 
 pub put_errors-answer-requires : goal.put_errors-answer-requires
 put_errors-answer-requires c =
-    let s = c.new-walker.result.parser in
-    let start = c.new-walker.ensures.parser ∙ c.requires.start in
+    let s = c.args.start in
+    let start = c.requires.start in
     ap length c.in_ok-count.ensures.finders
     ∙ length-finders 0 [] s (calls s) (sym (ap (λ (t : State). length t.errors) start))
     ∙ sym (ap (λ (t : State). length t.errors) c.in_ok-count.ensures.state)

@@ -1,5 +1,5 @@
 use Rattle.std.proofs.Common.{refl, arith}
-use Rattle.flat_reading.proofs.walk.Walker.add_end.Goals as goal
+use Rattle.flat_reading.proofs.end.add_end.Goals as goal
 
 pub returns-then-number-steps-clause-added : goal.returns-then-number-steps-clause-added
 returns-then-number-steps-clause-added c = λ input used specs. record {

@@ -2,7 +2,7 @@ use Rattle.std.proofs.Common.{◌≡◌, ◌≤◌, length, map, min, take, drop
 use Rattle.rustc_parse_format.specs.Views.{seen_error}
 use Rattle.flat_reading.specs.declared.records.Fault.{Fault}
 use Rattle.flat_reading.specs.ErrorRecords.{Grows, HoldsErrors, texts_len}
-use Rattle.flat_reading.proofs.errors.put_records.Given as goal
+use Rattle.flat_reading.proofs.errors.put_errors.Given as goal
 
 abbrev pub invariant-loop-i : goal.invariant-loop-i
 invariant-loop-i l = record {

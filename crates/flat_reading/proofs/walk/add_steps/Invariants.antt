@@ -1,16 +1,16 @@
 use Rattle.std.proofs.Common.{◌≡◌, ◌+◌, ◌≤◌, length, drop}
 use Rattle.flat_reading.specs.Events.{position, states}
 use Rattle.flat_reading.specs.Progress.{Adds, IsOnItsWay, IsUpTo}
-use Rattle.flat_reading.proofs.walk.Walker.add_steps.Given as goal
+use Rattle.flat_reading.proofs.walk.add_steps.Given as goal
 
 abbrev pub invariant-loop-offset : goal.invariant-loop-offset
 invariant-loop-offset l = record {
-  ready : IsOnItsWay l.reading l.self;
-  read : l.offset ≡ position l.self.parser.input l.self.parser.rest;
-  room : l.count + length l.self.parser.rest ≤ length l.fn.self.parser.rest;
+  ready : IsOnItsWay l.reading l.parser;
+  read : l.offset ≡ position l.parser.input l.parser.rest;
+  room : l.count + length l.parser.rest ≤ length l.fn.parser.rest;
   up_to : (
-      IsUpTo l.reading.input.now l.fn.self.parser
-      (states l.self.parser) l.self.parser l.count l.specs.count l.self.finders l.steps
+      IsUpTo l.reading.input.now l.fn.parser
+      (states l.parser) l.parser l.count l.specs.count l.finders l.steps
       l.specs.records.now l.peeks
       );
   kept_steps : drop l.count l.steps ≡ drop l.count l.fn.steps;
@@ -19,4 +19,4 @@ invariant-loop-offset l = record {
 }
 
 abbrev pub decreases-loop-offset : goal.decreases-loop-offset
-decreases-loop-offset l = length l.self.parser.rest
+decreases-loop-offset l = length l.parser.rest

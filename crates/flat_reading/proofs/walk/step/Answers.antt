@@ -8,31 +8,31 @@ use Rattle.flat_reading.specs.Events.{fronts_in, position}
 use Rattle.flat_reading.proofs.Escaped.{read_at}
 use Rattle.flat_reading.proofs.Standing.{last, stands, still_ends}
 use Rattle.flat_reading.proofs.Finding.{add_finders-is, few_fronts, length-after}
-use Rattle.flat_reading.proofs.walk.Walker.step.Goals as goal
+use Rattle.flat_reading.proofs.walk.step.Goals as goal
 
 pub put_piece-requires-clause-last : goal.put_piece-requires-clause-last
 put_piece-requires-clause-last c =
     let read = c.put_state.ensures.offset
     ∙ ap (λ (s : State). position s.input s.rest) c.in_ok-piece.ensures.state in
-    let w = c.args.self.now in
+    let s = c.args.parser.now in
     let r = c.args.reading.now in
     let ready = c.requires.ready in
-    last r.input.now w.parser _ _ ready.utf8 ready.input ready.left read c.in_ok-piece.ensures.piece
+    last r.input.now s _ _ ready.utf8 ready.input ready.left read c.in_ok-piece.ensures.piece
 
 pub put_piece-requires-clause-stands : goal.put_piece-requires-clause-stands
 put_piece-requires-clause-stands c =
-    let w = c.args.self.now in
+    let s = c.args.parser.now in
     let r = c.args.reading.now in
     let ready = c.requires.ready in
-    stands r.input.now w.parser r.offset r.escapes _ ready.utf8 ready.input ready.left ready.plain
+    stands r.input.now s r.offset r.escapes _ ready.utf8 ready.input ready.left ready.plain
     c.in_ok-piece.ensures.piece
 
 pub put_piece-requires-clause-read : goal.put_piece-requires-clause-read
 put_piece-requires-clause-read c =
-    let w = c.args.self.now in
+    let s = c.args.parser.now in
     let r = c.args.reading.now in
     let ready = c.requires.ready in
-    read_at r.input.now w.parser r.escapes _ _ _ ready.utf8 ready.input ready.left ready.mode
+    read_at r.input.now s r.escapes _ _ _ ready.utf8 ready.input ready.left ready.mode
     c.position-start.ensures c.curarg-next.ensures.value
     c.curarg-next.ensures.fits c.in_ok-piece.ensures.piece
 
@@ -42,7 +42,7 @@ overflow_sub-count c =
     ∙ ap length c.errors-faults.ensures in
     let rest_after = sym (length-map c.errors.result.now seen_error) ∙ ap length c.errors.ensures in
     let grown = ap (λ (s : State). length s.errors) c.in_ok-piece.ensures.state
-    ∙ length-after c.args.self.now.parser (next_call c.args.self.now.parser) in
+    ∙ length-after c.args.parser.now (next_call c.args.parser.now) in
     omega (arith, before, rest_after, grown)
 
 pub add-requires : goal.add-requires
@@ -51,17 +51,17 @@ add-requires c =
     ∙ ap length c.errors-faults.ensures in
     let rest_after = sym (length-map c.errors.result.now seen_error) ∙ ap length c.errors.ensures in
     let grown = ap (λ (s : State). length s.errors) c.in_ok-piece.ensures.state
-    ∙ length-after c.args.self.now.parser (next_call c.args.self.now.parser) in
-    let few = few_fronts (next_call c.args.self.now.parser).faults in
+    ∙ length-after c.args.parser.now (next_call c.args.parser.now) in
+    let few = few_fronts (next_call c.args.parser.now).faults in
     let front_count : c.in_ok-piece.field-0.front_errors
-    ≡ fronts_in (next_call c.args.self.now.parser) =
+    ≡ fronts_in (next_call c.args.parser.now) =
     c.in_ok-piece.ensures.front_count in
     omega (arith, before, rest_after, grown, few, front_count)
 
 pub returns-clause-described : goal.returns-clause-described
 returns-clause-described c = λ room.
     let r = c.args.reading.now in
-    let s = c.args.self.now.parser in
+    let s = c.args.parser.now in
     let state = c.in_ok-piece.ensures.state in
     let kept = c.in_ok-put_piece.ensures.others in
     let place = rw state at c.put_closed_place.ensures in
@@ -79,15 +79,15 @@ returns-clause-described c = λ room.
 
 pub returns-clause-call : goal.returns-clause-call
 returns-clause-call c =
-    let old = c.args.self.now in
+    let old = c.args.parser.now in
     let ready = c.requires.ready in
     let before = sym (length-map c.errors-faults.result.now seen_error)
     ∙ ap length c.errors-faults.ensures in
     let rest_after = sym (length-map c.errors.result.now seen_error) ∙ ap length c.errors.ensures in
     let grown = ap (λ (s : State). length s.errors) c.in_ok-piece.ensures.state
-    ∙ length-after old.parser (next_call old.parser) in
-    let fs = (next_call old.parser).faults in
-    let front_count : c.in_ok-piece.field-0.front_errors ≡ fronts_in (next_call old.parser) =
+    ∙ length-after old (next_call old) in
+    let fs = (next_call old).faults in
+    let front_count : c.in_ok-piece.field-0.front_errors ≡ fronts_in (next_call old) =
     c.in_ok-piece.ensures.front_count in
     let found : length c.errors.result.now - length c.errors-faults.result.now
     ≡ length fs = omega (arith, before, rest_after, grown) in
@@ -98,12 +98,12 @@ returns-clause-call c =
       ready = record {
         utf8 = ready.utf8;
         input = ready.input ∙ sym (ap (λ (s : State). s.input) state);
-        left = still_ends old.parser t ready.left state;
+        left = still_ends old t ready.left state;
         plain = rw state ready.plain;
         mode = rw state ready.mode;
       };
       finders = rw (found, front_count) at c.in_ok-add.ensures.calls
-          ∙ sym (add_finders-is c.args.number old.finders.calls fs);
+          ∙ sym (add_finders-is c.args.number c.args.finders.now.calls fs);
       front_count = c.in_ok-add.ensures.front_count
-          ∙ ap (λ n. old.finders.front_count + n) front_count;
+          ∙ ap (λ n. c.args.finders.now.front_count + n) front_count;
     }

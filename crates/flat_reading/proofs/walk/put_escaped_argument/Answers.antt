@@ -1,4 +1,4 @@
-use Rattle.flat_reading.proofs.walk.Walker.put_escaped_argument.Goals as goal
+use Rattle.flat_reading.proofs.walk.put_escaped_argument.Goals as goal
 
 pub returns-clause-described : goal.returns-clause-described
 returns-clause-described c = λ room.
