@@ -2,7 +2,8 @@
  * of bindings/c/portable is made from the crate for Rust, which is only tested.
  *
  * One call, dephungo_read, reads a whole input and writes the results into buffers of the
- * caller. The library owns nothing and keeps nothing after the call. A record is plain
+ * caller. The library owns nothing and keeps nothing after the call, so calls may run at once in
+ * several threads, if none writes what another one reads or writes. A record is plain
  * integers: any memory of its size may be passed, and a copy of it stays valid as long as the
  * input and the texts do. A field whose comment begins with constants, such as TEXT, has a value
  * only where the record has one of them, and a range with a flag, such as place with has_place,
@@ -197,8 +198,8 @@ typedef struct dephungo_answer {
     uint8_t is_source_literal; /* not 0 if the snippet is the source literal of the input */
 } dephungo_answer;
 
-/* the buffers that get the results, each with its room in records or, for texts, in bytes; no pointer may be null, even if its
- * room is 0 */
+/* the buffers that get the results, each with its room in records or, for texts, in bytes; in the proved library no pointer may be
+ * null, even if its room is 0 */
 typedef struct dephungo_buffers {
     dephungo_step *steps;   /* the calls of the parser, in order */
     size_t step_room;
@@ -233,14 +234,23 @@ enum {
  * buffers:  where the results are written; this record itself is only read, so it may be used again
  * answer:   the lengths of the results
  *
- * No pointer may be null, even if its length or room is 0, and what the call writes may not overlap
- * anything else. */
+ * In the proved library no pointer may be null, even if its length or room is 0, since no proof is about such a pointer. In
+ * that of bindings/c/portable NULL with the length or the room 0 is an empty text or buffer. What the call writes may not
+ * overlap anything else. */
 uint32_t dephungo_read(
     const uint8_t *input, size_t input_length,
     const uint8_t *snippet, size_t snippet_length,
     const dephungo_options *options,
     dephungo_buffers *buffers,
     dephungo_answer *answer);
+
+/* These two are in the library of bindings/c/portable alone: with them a program sees that the library has another version than
+ * the header that it was compiled with.
+ *
+ * the version of the library, as DEPHUNGO_VERSION */
+const char *dephungo_version(void);
+/* the size in bytes of the record with this name, such as "dephungo_step", or 0 if there is none; not NULL */
+size_t dephungo_size_of(const char *record);
 
 #ifdef __cplusplus
 }

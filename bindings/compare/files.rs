@@ -73,32 +73,6 @@ macro_rules! seen_by {
                 (!text.contains('\\')).then_some((text, hashes))
             }
 
-            fn reason(reason: Reason) -> &'static str {
-                match reason {
-                    Reason::NoArgument => "missing",
-                    Reason::Edition => "edition",
-                    Reason::Variable => "variable",
-                    Reason::Suffix => "suffix",
-                    Reason::Macro => "macro",
-                    Reason::Expression => "expression",
-                }
-            }
-
-            /// The parts of a fault besides its title.
-            fn detail(fault: &CallFault<'_>) -> String {
-                match fault {
-                    CallFault::PositionalAfterNamed { index, named_arguments } => format!("{index} {named_arguments:?}"),
-                    CallFault::RepeatedName { index, first_index } => format!("{index} {first_index}"),
-                    CallFault::MissingName { reference, .. } => format!("{reference:?}"),
-                    CallFault::UnknownTrait { piece, ty } => format!("{piece} {ty}"),
-                    CallFault::MissingArguments(missing) => format!("{missing:?}"),
-                    CallFault::UnusedArguments(list) => format!("{list:?}"),
-                    CallFault::RedundantArguments(list) => format!("{list:?}"),
-                    CallFault::NameUsedByIndex { reference, index } => format!("{reference:?} {index}"),
-                    CallFault::Text(_) => String::new(),
-                }
-            }
-
             fn faults(call: &Call<'_>) -> Vec<String> {
                 let Some((text, style)) = call.literal().and_then(content) else {
                     return Vec::new();
@@ -118,15 +92,14 @@ macro_rules! seen_by {
                 let checked = call_faults(string, &given);
                 let mut lines = Vec::new();
                 for it in checked.faults() {
-                    lines.push(format!("  {} {} {}", it.id(), checked.title(it), detail(it)));
+                    lines.push(format!("  {} {} {it:?}", it.id(), checked.title(it)));
                 }
                 lines.push(format!("  {:?} {:?}", checked.pieces(), checked.arg_places()));
                 lines
             }
 
             fn call(call: &Call<'_>) -> Vec<String> {
-                let string = call.string.map_err(reason);
-                let mut lines = vec![format!("{} {:?} {string:?}", call.name, call.span)];
+                let mut lines = vec![format!("{} {:?} {:?}", call.name, call.span, call.string)];
                 for it in &call.arguments {
                     let FormatArgument { name, variable } = it.format_argument;
                     let (text, span, value) = (it.text, &it.span, &it.value);

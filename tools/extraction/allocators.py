@@ -4,7 +4,8 @@ alloc`, and the argument of a call that takes one. What else is done with an all
 import re
 
 # Functions of the library that take the allocator.
-TAKING = {"collect", "from_str", "levenshtein", "new", "with_capacity"}
+TAKING = {"collect", "from_str", "from_utf8_lossy", "levenshtein", "new", "table_from_str",
+          "with_capacity"}
 PARAMETER = "alloc : Global"
 # What gives an allocator and does nothing else.
 ALLOCATOR = re.compile(r"alloc|rt \. alloc \( \)|\* \w+( \. \w+)* \. allocator \( \)")

@@ -10,13 +10,22 @@ from extraction.tokens import Refused
 
 TOP = Path(__file__).resolve().parent.parent.parent
 RUST = TOP / "bindings/rust/src"
-CRATES = ("rustc_parse_format", "placeholder_check", "format_tokens", "fault_fixes", "drawn_lines",
+CRATES = ("rustc_parse_format", "placeholder_check", "format_tokens", "fault_fixes", "drawn_lines", "shown_text",
           "drawn_labels", "drawn_edits", "drawn_faults", "rust_tokens", "rust_trees",
           "format_calls", "call_forms", "source_report", "text_faults", "call_faults", "asm_faults",
           "message_faults", "piece_listing", "listing_json", "literal_faults", "format_literal",
-          "format_lint", "lint_words", "asm_lint", "source_lint", "file_fixes", "inlined_arguments", "file_inlines",
-          "unified_diff", "fault_rules", "message_forms", "package_edition", "finding_forms",
+          "format_lint", "lint_words", "asm_lint", "source_lint", "file_fixes", "inlined_arguments",
+          "file_inlines", "macro_owners", "unified_diff", "fault_rules", "message_forms", "manifest",
+          "finding_forms",
           "lint_program", "formatread", "formatlint")
+# The features of the crate for Rust, each with those before it.
+FEATURES = ("lint", "programs")
+# A module that is there with a feature alone
+GATED = re.compile(r'#\[cfg\(feature = "(\w+)"\)\]\s*(?:#\[.*\]\s*)*(?:pub )?mod (\w+);')
+# The crates of which each function can be inlined: those that read the bytes of all texts and files
+INLINED = ("rustc_parse_format", "rust_tokens", "rust_trees")
+# How many tokens the body of a function may have that can be inlined in another crate
+SHORT = 20
 NOTICE = """\
 // Extracted from {place} by tools/extract: not to be edited.
 // That source has the contracts, and is proved. That this text means the same is only tested.
@@ -62,16 +71,14 @@ class Read:
             item.is_kept = known.is_kept
         return self.text(source, self.needs, self.cloned)
 
-    def made(self, callers, programs=()):
+    def made(self, callers, of_features=()):
         """The sources in Rust, by their names, of all items that the callers need, which are files in
-        Rust. What only those of the programs need is there with the feature `std` alone. It can be
-        asked once."""
+        Rust, and so for each feature those that are there with it. A module that nothing before it
+        needs is there with the feature alone. It can be asked once."""
         needs = Needs(self.sources)
-        needs.add_callers(callers)
-        needs.plain = {module for module in needs.files if needs.has(*module)}
-        needs.plainly_passed = set(needs.passed)
-        needs.add_callers(programs)
-        needs.note_plain()
+        for rank, paths in enumerate((callers, *of_features)):
+            needs.add_callers(paths, rank)
+        needs.note_passed()
         cloned = {item.name for source in self.sources for item in source.items
                   if any(clones_in(source, part) for part in item.parts)}
         self.needs, self.cloned = needs, cloned
@@ -92,8 +99,7 @@ class Read:
         items = source.items_inside()
         has = [(needs.has(*here, it.name), needs.feature(*here, it.name))
                for it in items if it.kind == "mod"]
-        passed = sorted(it for it in needs.passed if it[0] == source.path)
-        passed = [(name, (path, name) in needs.plainly_passed) for path, name in passed]
+        passed = sorted(needs.passed_in(source.path).items())
         key = (source.path, source.whole, *(it.is_kept for it in items), *has, *passed)
         if key not in TEXTS:
             words = (source, needs, self.crates, self.empty, cloned)
@@ -122,10 +128,15 @@ def read_repository():
 def of_repository(read=None):
     """The sources that these crates, or those of the repository, make for the crate for Rust, by
     their names."""
-    callers = [it for it in sorted(RUST.rglob("*.rs")) if RUST / "proved" not in it.parents]
-    programs = [RUST / "programs.rs"]
-    read = read or read_repository()
-    return read.made([it for it in callers if it not in programs], programs)
+    files = [it for it in sorted(RUST.rglob("*.rs")) if RUST / "proved" not in it.parents]
+    folder = lambda it: it.parent if it.stem in ("lib", "mod") else it.with_suffix("")
+    gated = {folder(it) / name: feature
+             for it in files for feature, name in GATED.findall(it.read_text())}
+    groups = {feature: [] for feature in ("", *FEATURES)}
+    for it in files:
+        places = (it.with_suffix(""), *it.parents)
+        groups[next((gated[place] for place in places if place in gated), "")].append(it)
+    return (read or read_repository()).made(groups[""], [groups[it] for it in FEATURES])
 
 
 def laid_out(files):
@@ -156,14 +167,18 @@ class Needs:
     def __init__(self, sources):
         self.sources = sources
         self.files = {(source.crate, *module_of(source.name)): source for source in sources}
-        self.items, self.methods, self.shown, self.passed = set(), set(), set(), set()
-        self.plain, self.plainly_passed = set(), set()
+        self.items, self.methods, self.shown = set(), set(), set()
+        # The modules, and what is imported through files, with the rank of the feature that needs it
+        self.ranks, self.passed, self.rank = {}, {}, 0
 
-    def add_callers(self, paths):
+    def add_callers(self, paths, rank):
         """Marks all items that these files in Rust need, and what these need."""
+        self.rank = rank
         for path in paths:
             self.add_caller(in_place(str(path), Source, path.name, path.read_text(), False))
         self.follow()
+        for module in filter(lambda it: self.has(*it), self.files):
+            self.ranks.setdefault(module, rank)
 
     def add_caller(self, caller):
         """Adds what a file in Rust names: what it imports of what is extracted, and each method
@@ -193,7 +208,8 @@ class Needs:
                 behind = source.imports().get(path[cut])
                 if behind is None:
                     return source.path, path[cut]
-                self.passed.add((source.path, path[cut]))
+                name = source.path, path[cut]
+                self.passed[name] = min(self.rank, self.passed.get(name, self.rank))
                 return self.resolved(self.absolute(source, behind) + path[cut + 1 :])
         return None, path[-1]
 
@@ -237,17 +253,18 @@ class Needs:
                     if part is not item:
                         self.items.add((source.path, item.name))
 
-    def note_plain(self):
-        """Notes what the modules that are there without the feature `std` import through others."""
-        all_passed, self.passed = self.passed, set()
-        for module in self.plain:
+    def note_passed(self):
+        """Notes what the modules import through others, with the features that they are there with."""
+        for module, self.rank in self.ranks.items():
             source = self.files[module]
             for item in source.items:
                 for part in [it for it in item.parts if it.is_kept] or [item]:
                     if part.is_kept:
                         self.add(source, part)
-        self.plainly_passed |= self.passed
-        self.passed |= all_passed
+
+    def passed_in(self, path):
+        """The names that are imported through a file, with the ranks of their features."""
+        return {name: rank for (place, name), rank in self.passed.items() if place == path}
 
     def has(self, *module):
         """Whether something of a module is needed, or of one in it."""
@@ -255,9 +272,9 @@ class Needs:
         return any(item.is_kept for source in inside for item in source.items)
 
     def feature(self, *module):
-        """The attribute of a module that only the programs need."""
-        is_plain = any(it[: len(module)] == module for it in self.plain)
-        return "" if is_plain else '#[cfg(feature = "std")]\n'
+        """The attribute of a module, if it is there with a feature alone that no module around it needs."""
+        rank = self.ranks.get(module, 0)
+        return attribute(rank) if rank > self.ranks.get(module[:-1], 0) else ""
 
     def is_needed(self, source, item, part):
         if item.kind != "impl":
@@ -272,6 +289,11 @@ class Needs:
             return True
         count = part.kind == "fn" and source.count_of(source.given(part)) - 1
         return (".", part.name, count) in self.methods
+
+
+def attribute(rank):
+    """The attribute of what is there with a feature alone."""
+    return f'#[cfg(feature = "{FEATURES[rank - 1]}")]\n'
 
 
 def module_of(name):
@@ -312,12 +334,13 @@ def rust_of(source, needs, crates, empty, cloned):
             if needs.has(*here, item.name):
                 # what calls the crates stands outside of them
                 public = "pub" if item.is_public else "pub(crate)"
-                feature = needs.feature(*here, item.name) if needs.feature(*here) == "" else ""
+                feature = needs.feature(*here, item.name)
                 body += f"{comments(source, item)}{feature}{public} mod {item.name};"
         elif item.kind == "use":
-            passed = {name for path, name in needs.passed if item.is_public and path == source.path}
-            plain = {name for path, name in needs.plainly_passed if path == source.path}
-            words = (own | passed, passed - plain - own if needs.feature(*here) == "" else ())
+            passed = needs.passed_in(source.path) if item.is_public else {}
+            features = {name: attribute(rank) for name, rank in passed.items()
+                        if name not in own and rank > needs.ranks[here]}
+            words = own | passed.keys(), features
             lines = rules.imported(source, item, source.crate, crates, *words)
             body += comments(source, item) + lines if lines else ""
         elif item.is_kept:
@@ -358,8 +381,8 @@ def item_rewritten(source, item, crates, empty, cloned):
 
 
 def head_of(source, item):
-    """Lets a function be inlined if no attribute says otherwise: rustc compiles a crate in parts, and
-    Rattle as a whole."""
+    """Lets a short function be inlined, and each that reads bytes, if no attribute says otherwise: rustc
+    compiles a crate in parts, and Rattle as a whole. More would double the time that rustc takes."""
     if item.kind == "fn":
         if (source.name, item.name) == ("main.rt", "main"):
             # a program of the crate for Rust calls it
@@ -369,7 +392,8 @@ def head_of(source, item):
                 # what calls the crates stands outside of them
                 source.tokens[at].text = "crate"
         words = source.texts(item.start, item.head)
-        if "inline" not in words:
+        is_short = source.crate in INLINED or len(source.places(item.open, item.last)) <= SHORT
+        if is_short and "inline" not in words:
             source.tokens[item.start].text = "#[inline]\n" + source.tokens[item.start].text
 
 
@@ -384,8 +408,8 @@ def derives(source, item, cloned):
     if item.name in cloned:
         names = ["Clone"] + names
     source.cut(first, source.next(last) - 1)
-    if names:
-        source.tokens[first].text = f"#[derive({', '.join(names)})]\n"
+    growing = "#[non_exhaustive]\n" * ((source.crate, item.name) in rules.GROWING)
+    source.tokens[first].text = growing + f"#[derive({', '.join(names)})]\n" * bool(names)
 
 
 def comments(source, item):

@@ -21,18 +21,19 @@ LIBRARY = {"clap": "crate::shim::clap", "itoa": "crate::shim::itoa",
            "std::io::IsTerminal": "crate::shim::host::IsTerminal", "std::io": None,
            "std::iter::FusedIterator": "core::iter::FusedIterator", "std::marker::Model": None,
            "std::mem": "core::mem", "std::ops::Range": "core::ops::Range",
-           "std::process::ExitCode": None,
+           "std::os": None, "std::process::ExitCode": None, "std::random": None,
            "std::simd::prelude": "crate::shim::simd",
            "std::time::Instant": "crate::shim::host::Instant",
-           "strsim": "crate::shim::strsim", "unicode_ident": "crate::shim::unicode_ident",
+           "strsim": "crate::shim::strsim", "toml": "crate::shim::toml", "unicode_ident": "crate::shim::unicode_ident",
            "unicode_width": "crate::shim::unicode_width"}
 # Calls that may return an allocation failure. In Rust they are methods of the shim's traits.
 CONSTRUCTORS = {("Box", "new"): "made_of", ("String", "from_str"): "made_from",
+                ("String", "from_utf8_lossy"): "made_from_bytes",
                 ("String", "with_capacity"): "made_for", ("Vec", "with_capacity"): "made_for"}
 # The names of a module of the library that may stand by themselves or after it.
 NAMED = {"env": {"args", "var"},
-         "fs": {"DirEntry", "File", "canonicalize", "metadata", "open", "read_dir", "remove_file",
-                "rename", "set_permissions"},
+         "fs": {"DirEntry", "File", "Metadata", "OpenOptions", "canonicalize", "metadata", "open",
+                "read_dir", "read_link", "remove_file", "symlink_metadata"},
          "io": {"Error", "ErrorKind", "IsTerminal", "Read", "Result", "Write"}, "mem": {"replace"}}
 # Constructors that take no memory.
 PLAIN = {("BTreeMap", "new"), ("BTreeSet", "new"), ("String", "from_utf8"), ("String", "new"),
@@ -75,7 +76,11 @@ ADDED = {("placeholder_check", "Report"): ("Clone", *SHOWN),
             for name in ("ContentCharacter", "Fault")},
          ("fault_fixes", "FixedLiteral"): ("Clone",),
          ("format_literal", "Literal"): ("Clone", *SHOWN),
-         ("call_faults", "FormatArgument"): SHOWN, ("source_report", "CallReading"): SHOWN,
+         **{("call_faults", name): SHOWN for name in ("FormatArgument", "FormatString")},
+         **{("call_faults", name): ("Eq",) for name in ("InvalidReference", "Part", "Reference")},
+         **{it: ("Clone", *SHOWN) for it in (("call_faults", "CallFault"), ("file_fixes", "FileFixes"),
+                                             ("format_calls", "Table"))},
+         ("source_report", "CallReading"): SHOWN,
          **{("source_report", name): ("Clone", *SHOWN)
             for name in ("Edit", "Finding", "Help", "Label", "Note", "Report")},
          **{("rust_trees", name): SHOWN for name in ("FileBreak", "BreakKind", "Place")},
@@ -84,6 +89,11 @@ ADDED = {("placeholder_check", "Report"): ("Clone", *SHOWN),
          ("file_inlines", "FileInlines"): ("Clone", *SHOWN),
          **{(crate, name): ("Hash",) for crate in ("format_tokens", "rust_tokens")
             for name in ("Kind", "Token")}}
+# Types to which a later version may add: the users of the crate for Rust are told so.
+GROWING = {("call_faults", "CallFault"), ("file_fixes", "FileFixes"), ("file_inlines", "CallInlining"),
+           ("file_inlines", "FileInlines"), ("format_calls", "Reason"), ("format_tokens", "Kind"),
+           ("inlined_arguments", "Obstacle"), ("rust_tokens", "Kind"), ("rustc_parse_format", "Fault"),
+           ("source_report", "Finding"), ("source_report", "Report")}
 # Members that what calls the crates has to write, for which they have no call.
 OPENED = {"Cursor": {"source"}}
 # What is said of an error that has no value in Rust.
@@ -93,13 +103,14 @@ KEYWORDS = ("else", "if", "in", "match", "return", "while")
 # Methods of the library that do the same in both languages, and on each Unicode version but for
 # white space. Others that are called are those of the crates or of the shim.
 PLAIN_METHODS = set("""
-all as_bytes as_deref as_millis as_ref as_slice as_str capacity chars checked_add contains copied
-ends_with enumerate error_len get is_ascii is_ascii_alphanumeric is_ascii_digit is_ascii_hexdigit
+all as_bytes as_deref as_millis as_ref as_slice as_str capacity chars checked_add checked_mul contains copied
+get_mut ends_with enumerate error_len get is_ascii is_ascii_alphanumeric is_ascii_digit is_ascii_hexdigit
 is_ascii_lowercase is_dir is_empty is_err is_file is_none is_ok is_some is_whitespace iter kind last
 len len_utf8 lines map map_or max min next next_back ok or permissions pop read_to_end
-read_to_string readonly remove rev reverse rfind rsplit_once saturating_add saturating_mul
+read_to_string readonly remove retain rev reverse rfind rsplit_once saturating_add saturating_mul
 saturating_sub shrink_to_fit split split_at split_inclusive split_once starts_with strip_prefix
 strip_suffix then_some to_digit trailing_zeros trim trim_end trim_start unwrap_or valid_up_to zip
+as_mut_slice err raw_os_error trim_start_matches
 """.split())
 SHIM = Path(__file__).resolve().parent.parent.parent / "bindings/rust/src/shim"
 SHIM_METHODS = {name for file in SHIM.rglob("*.rs")
@@ -116,6 +127,9 @@ def rewrite(source, item, crate, crates):
     for at, text in source.doubts:
         if item.start <= at <= item.last:
             source.refuse(at, f"`{text}` in what is done to a value that takes no bytes")
+    if item.of and item.kind == "fn" and (
+            item.name in TESTS or item.name in METHODS and not item.allocates):
+        source.refuse(item.head, f"a method `{item.name}`, of which a call is read as the library's")
     uses_shim = False
     for at in source.places(item.start, item.last):
         if not source.is_real(at):
@@ -146,7 +160,8 @@ def rewrite(source, item, crate, crates):
                     source.refuse(called, f"a call `{'::'.join(name)}`")
             elif text[0].islower() and text not in (*KNOWN, *modules_of(source), *source.imports()):
                 source.refuse(at, f"a path that begins with `{text}`")
-        elif source.is_word(at) and text in METHODS and before in (".", "fn") and behind == "(":
+        elif (source.is_word(at) and text in METHODS and behind == "("
+              and (before == "." or before == "fn" and item.of)):
             if (text == "clone" and before == "."
                 and source.text(source.next(source.close(source.next(at)))) != "?"):
                 source.refuse(at, "a clone whose refusal is not answered on the spot")
@@ -387,9 +402,9 @@ def in_library(path):
     return next((it for it in LIBRARY if path[: it.count("::") + 1] == it.split("::")), None)
 
 
-def imported(source, item, crate, crates, named, of_programs):
-    """The lines of a `use` of which the names are kept that something names, those apart that only
-    the programs name."""
+def imported(source, item, crate, crates, named, features):
+    """The lines of a `use` of which the names are kept that something names, those apart that are
+    there with a feature alone: the attributes are given."""
     of = {}
     for path, called in Import(source, source.next(item.head)).paths():
         if called != "*" and called not in named:
@@ -405,11 +420,10 @@ def imported(source, item, crate, crates, named, of_programs):
         elif path[0] not in ("super", *modules_of(source)):
             source.refuse(item.head, f"`{'::'.join(path)}`, which is not known")
         name = path[-1] if called == path[-1] else f"{path[-1]} as {called}"
-        of.setdefault(("::".join(path[:-1]), called in of_programs), []).append(name)
+        of.setdefault(("::".join(path[:-1]), features.get(called, "")), []).append(name)
     before = source.span(item.start, item.head - 1)
     lines = []
-    for (parent, is_of_programs), names in of.items():
+    for (parent, feature), names in of.items():
         named = names[0] if len(names) == 1 else "{" + ", ".join(names) + "}"
-        feature = '#[cfg(feature = "std")]\n' if is_of_programs else ""
         lines.append(f"{feature}{before}use {f'{parent}::' if parent else ''}{named};")
     return "\n".join(lines)

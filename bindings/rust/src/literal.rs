@@ -127,7 +127,8 @@ impl<'a> Literal<'a> {
         )
     }
 
-    /// Compares the pieces with the arguments that are given, as [`check`] does.
+    /// Compares the pieces with the arguments that are given, as [`check`] does. The report has at most
+    /// as many unused indices as `positional` says, and at most three missing ones for each placeholder.
     #[must_use]
     pub fn check<'b>(&'b self, positional: usize, names: &[&'b str]) -> Report<'b> {
         check(&self.pieces(), positional, names)

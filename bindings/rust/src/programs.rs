@@ -3,7 +3,7 @@
 //! programs do.
 use crate::proved::formatlint::main as formatlint_in;
 use crate::proved::formatread::main as formatread_in;
-use crate::shim::host::HostRuntime;
+use crate::shim::host::{self, HostRuntime};
 use std::process::ExitCode;
 
 /// Runs the program that lists the pieces and the faults of a format string, and returns its exit
@@ -18,4 +18,10 @@ pub fn formatread() -> ExitCode {
 #[must_use]
 pub fn formatlint() -> ExitCode {
     formatlint_in(HostRuntime)
+}
+
+/// Notes whether standard output is closed, for the programs to say so. It has to be called before
+/// `main`.
+pub extern "C" fn note_closed_output() {
+    host::note_closed_output();
 }

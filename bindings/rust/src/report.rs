@@ -13,8 +13,11 @@ pub use crate::proved::placeholder_check::Report;
 /// The position, the width and the precision of a placeholder can each use an argument, as in the
 /// documentation of `std::fmt`; but here an index never refers to an argument that is given by
 /// name. A name that a call would capture from around it is missing here too, so `missing_name` is
-/// the list of the variables that a call with these arguments captures. An allocation failure
-/// aborts, as elsewhere in Rust.
+/// the list of the variables that a call with these arguments captures.
+///
+/// `unused_index` has each index below `positional` that no piece uses, so do not take that number from
+/// an input without a bound. `missing_index` has at most three indices for each placeholder. An allocation
+/// failure aborts, as elsewhere in Rust.
 ///
 /// ```
 /// use dephungo::{report::check, ParseMode, Parser, Piece};

@@ -31,6 +31,7 @@ use crate::shim::alloc::answer;
 use crate::Piece;
 use alloc::string::String;
 use alloc::vec::Vec;
+use core::fmt::{self, Debug, Formatter};
 use core::ops::Range;
 
 pub use crate::proved::call_faults::{
@@ -42,7 +43,7 @@ pub use crate::proved::format_calls::{Reason, Row, Rule};
 pub use crate::proved::inlined_arguments::Obstacle;
 pub use crate::proved::rust_tokens::{Kind, Token};
 pub use crate::proved::rust_trees::{BreakKind, FileBreak, Place};
-pub use crate::proved::source_report::{CallReading, Finding, Report};
+pub use crate::proved::source_report::{CallReading, Edit, Finding, Help, Label, Note, Report};
 
 /// Returns the tokens of a file, with white space and comments, one after the other from its start
 /// to its end. An allocation failure aborts, as elsewhere in Rust.
@@ -74,7 +75,15 @@ pub fn tokens(text: &str) -> Vec<Token> {
 
 /// A text in which finding the place of a byte offset takes no longer if the text is longer.
 pub struct Places<'a> {
+    text: &'a str,
     places: PlacesIn<'a>,
+}
+
+/// Shows the text.
+impl Debug for Places<'_> {
+    fn fmt(&self, out: &mut Formatter<'_>) -> fmt::Result {
+        out.debug_tuple("Places").field(&self.text).finish()
+    }
 }
 
 impl<'a> Places<'a> {
@@ -82,6 +91,7 @@ impl<'a> Places<'a> {
     #[must_use]
     pub fn new(text: &'a str) -> Places<'a> {
         Places {
+            text,
             places: answer(PlacesIn::new(text)),
         }
     }
@@ -102,9 +112,27 @@ impl<'a> Places<'a> {
     pub fn place_of(&self, offset: usize) -> Place {
         self.places.place_of(offset)
     }
+
+    /// Returns the line and the column of a byte offset as [`Places::place_of`] does, or `None` if no
+    /// character of the text starts there and it is not its end.
+    ///
+    /// ```
+    /// use dephungo::source::Places;
+    ///
+    /// let places = Places::new("é\nb");
+    /// assert_eq!(places.get(4).unwrap().column, 2);
+    /// assert_eq!((places.get(1), places.get(5)), (None, None));
+    /// ```
+    #[must_use]
+    pub fn get(&self, offset: usize) -> Option<Place> {
+        self.text
+            .is_char_boundary(offset)
+            .then(|| self.place_of(offset))
+    }
 }
 
 /// A table of macros that take a format string. Of two with one name the first one counts.
+#[derive(Clone, Debug, Eq, PartialEq)]
 pub struct Table<'a> {
     table: TableIn<'a>,
 }
@@ -298,7 +326,7 @@ pub fn first_break(text: &str) -> Option<usize> {
 /// ```
 #[must_use]
 pub fn file_faults(text: &str, table: &Table<'_>, is_from_2021: bool) -> Report {
-    answer(file_faults_in(text, &options(table, is_from_2021)))
+    answer(file_faults_in(text, &reading_options(table, is_from_2021)))
 }
 
 /// Reads a file as [`file_faults`] does, and applies to its faults the suggestions that rustc calls
@@ -322,41 +350,51 @@ pub fn file_faults(text: &str, table: &Table<'_>, is_from_2021: bool) -> Report 
 /// ```
 #[must_use]
 pub fn file_fixes(text: &str, table: &Table<'_>, is_from_2021: bool) -> FileFixes {
-    answer(fixes_in(text, &options(table, is_from_2021)))
+    answer(fixes_in(text, &reading_options(table, is_from_2021)))
+}
+
+/// How [`file_inlines`] reads and changes a file. By default it is of the edition 2021 or later, and calls
+/// with other arguments stay.
+#[derive(Clone, Copy, Debug, Eq, PartialEq)]
+pub struct InlineOptions {
+    /// Whether the edition of the file is 2021 or a later one.
+    pub is_from_2021: bool,
+    /// Whether a call is changed that has other arguments too: these stay.
+    pub allows_mixed: bool,
+}
+
+impl Default for InlineOptions {
+    fn default() -> Self {
+        InlineOptions {
+            is_from_2021: true,
+            allows_mixed: false,
+        }
+    }
 }
 
 /// Reads a file as [`file_faults`] does, and moves the arguments of its calls that are variables into
-/// their format strings. Each call then means what it meant before. `allows_mixed` is whether a call
-/// is changed that has other arguments too: these stay.
+/// their format strings. Each call then means what it meant before.
 ///
 /// The file stays as it is if it breaks, or if with the calls inlined it would break, have another
 /// number of calls or more faults. An allocation failure aborts, as elsewhere in Rust.
 ///
 /// ```
-/// use dephungo::source::{file_inlines, CallInlining, Obstacle, Table};
+/// use dephungo::source::{file_inlines, CallInlining, InlineOptions, Obstacle, Table};
 ///
 /// let text = "fn f() { print!(\"{}, {:>w$}\", x, y, w = w); print!(\"{} {}\", x, y + 1); }";
-/// let inlines = file_inlines(text, &Table::standard(), true, false);
+/// let inlines = file_inlines(text, &Table::standard(), InlineOptions::default());
 /// let inlined = "fn f() { print!(\"{x}, {y:>w$}\"); print!(\"{} {}\", x, y + 1); }";
 /// assert_eq!(inlines.text.as_deref(), Some(inlined));
 /// assert_eq!(inlines.calls, [CallInlining::Inlined, CallInlining::Unchanged(Obstacle::Mixed)]);
 /// ```
 #[must_use]
-pub fn file_inlines(
-    text: &str,
-    table: &Table<'_>,
-    is_from_2021: bool,
-    allows_mixed: bool,
-) -> FileInlines {
-    answer(inlines_in(
-        text,
-        &options(table, is_from_2021),
-        allows_mixed,
-    ))
+pub fn file_inlines(text: &str, table: &Table<'_>, options: InlineOptions) -> FileInlines {
+    let reading = reading_options(table, options.is_from_2021);
+    answer(inlines_in(text, &reading, options.allows_mixed))
 }
 
 /// Returns the options for reading a file.
-fn options<'a>(table: &Table<'a>, is_from_2021: bool) -> Options<'a> {
+fn reading_options<'a>(table: &Table<'a>, is_from_2021: bool) -> Options<'a> {
     Options {
         table: TableIn {
             rows: table.rows().to_vec(),
@@ -368,6 +406,16 @@ fn options<'a>(table: &Table<'a>, is_from_2021: bool) -> Options<'a> {
 /// A call that was checked.
 pub struct CheckedCall<'a> {
     checked: CallReportIn<'a>,
+}
+
+/// Shows the faults and the pieces.
+impl Debug for CheckedCall<'_> {
+    fn fmt(&self, out: &mut Formatter<'_>) -> fmt::Result {
+        let mut out = out.debug_struct("CheckedCall");
+        out.field("faults", &self.faults())
+            .field("pieces", &self.pieces());
+        out.finish_non_exhaustive()
+    }
 }
 
 /// Checks a call of a macro that takes a format string: reads the string, compares its placeholders

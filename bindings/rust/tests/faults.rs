@@ -1,5 +1,6 @@
 //! Fixes and drawings: the fixes of literals, and the drawings of spans that no parser gives, or of
 //! which there is no drawing of rustc. The others are compared by bindings/compare.
+#![cfg(feature = "lint")]
 use dephungo::faults::{draw, edits, error_of, errors_of, faults_of, fix, Picture};
 use dephungo::ParseMode::{self, *};
 use dephungo::{ParseError, Suggestion};

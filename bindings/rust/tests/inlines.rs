@@ -1,6 +1,7 @@
 //! Files whose calls are inlined, calls that are left, and the reasons.
+#![cfg(feature = "lint")]
 
-use dephungo::source::{file_inlines, CallInlining, CallReading, Obstacle, Table};
+use dephungo::source::{file_inlines, CallInlining, CallReading, InlineOptions, Obstacle, Table};
 
 /// The literal and the arguments of a call of `format!`, what clippy 1.95 suggests for
 /// `uninlined_format_args` with mixed calls allowed, and whether arguments stay.
@@ -126,12 +127,20 @@ fn table() -> Table<'static> {
 
 /// A file with its calls inlined, or `None` if it stays as it is.
 fn inlined(text: &str, is_from_2021: bool, allows_mixed: bool) -> Option<String> {
-    file_inlines(text, &table(), is_from_2021, allows_mixed).text
+    let options = InlineOptions {
+        is_from_2021,
+        allows_mixed,
+    };
+    file_inlines(text, &table(), options).text
 }
 
 /// What becomes of the calls of a file.
 fn calls(text: &str, is_from_2021: bool, allows_mixed: bool) -> Vec<CallInlining> {
-    file_inlines(text, &table(), is_from_2021, allows_mixed).calls
+    let options = InlineOptions {
+        is_from_2021,
+        allows_mixed,
+    };
+    file_inlines(text, &table(), options).calls
 }
 
 #[test]

@@ -1,4 +1,5 @@
 //! Literals as they stand in a program, beside the calls with five arguments.
+#![cfg(feature = "lint")]
 use dephungo::faults::{errors_of, faults_of, fix};
 use dephungo::literal::{is_source_literal, Literal};
 use dephungo::tokens::tokens;

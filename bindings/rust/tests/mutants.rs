@@ -1,8 +1,15 @@
 //! Rows that find mutants of the crate which no other test does. Places and words are those of rustc
 //! 1.95, and so are the drawings.
+#![cfg(feature = "lint")]
 use dephungo::faults::{draw, errors_of, Picture};
-use dephungo::source::{file_faults, file_inlines, tokens, Kind, Table};
+use dephungo::source::{file_faults, file_inlines, tokens, InlineOptions, Kind, Table};
 use dephungo::ParseMode::Format;
+
+/// Calls with other arguments are changed too.
+const MIXED: InlineOptions = InlineOptions {
+    is_from_2021: true,
+    allows_mixed: true,
+};
 
 /// The findings of a file, each with its id and the text from its start on.
 fn found<'a>(text: &'a str, table: &Table<'_>) -> Vec<(&'static str, &'a str)> {
@@ -81,7 +88,7 @@ fn keywords() {
     for word in words.split(' ') {
         let text = format!("fn f() {{ print!(\"{{}}\", {word}); }}");
         assert!(
-            file_inlines(&text, &Table::standard(), true, true)
+            file_inlines(&text, &Table::standard(), MIXED)
                 .text
                 .is_none(),
             "{word}"
@@ -119,6 +126,6 @@ fn a_window_of_two_lines() {
 #[test]
 fn arguments_after_a_semicolon() {
     let text = "fn f(x: u8) { log::info!(\"{}\"; x, y); }";
-    let made = file_inlines(text, &Table::with_crate_macros(), true, true);
+    let made = file_inlines(text, &Table::with_crate_macros(), MIXED);
     assert!(made.text.is_none());
 }

@@ -1,4 +1,5 @@
 //! The report on placeholders and arguments, beside one that looks each of them up by itself.
+#![cfg(feature = "lint")]
 use dephungo::{report::check, *};
 
 /// Which numbers and which names pieces use, in order.

@@ -1,5 +1,6 @@
 //! Tokens, places and calls of files. Expected values are worked out by hand from the Rust Reference,
 //! and places are those that rustc 1.95 reports.
+#![cfg(feature = "lint")]
 use dephungo::source::{first_break, calls, file_faults, file_fixes, tokens};
 use dephungo::source::{BreakKind, CallReading, Kind, Places, Reason, Row, Rule, Table};
 use std::path::{Path, PathBuf};

@@ -1,4 +1,5 @@
 //! The tokens of source literals, and of inputs without one.
+#![cfg(feature = "lint")]
 use dephungo::faults::errors_of;
 use dephungo::tokens::tokens;
 use dephungo::tokens::Kind::{self, *};

@@ -1,6 +1,7 @@
 pub mod AsmSteps
 pub mod AsmTelling
 pub mod Crs
+pub mod DroppedCrs
 pub mod Elements
 pub mod FrontSteps
 pub mod Gathering

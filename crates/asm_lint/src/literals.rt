@@ -7,7 +7,8 @@ ghost use Rattle.rustc_parse_format.specs.Literal.{IsLiteral, newline};
 ghost use Rattle.rustc_parse_format.specs.World.{hashes};
 ghost use Rattle.rust_tokens.specs.Runs.{first_passes};
 ghost use Rattle.rust_trees.specs.Places.{is_lf};
-ghost use Rattle.asm_lint.specs.Literals.{IsRead, appends_newline, without_crs};
+ghost use Rattle.asm_lint.specs.Literals.{AreBefore, IsRead, appends_newline, dropped_crs};
+ghost use Rattle.asm_lint.specs.Literals.{without_crs};
 
 use piece_listing::literal::{LiteralText, literal_text};
 use rust_tokens::split_first;
@@ -108,7 +109,9 @@ pub fn read_literal(
 /// Returns the CRs of a token that its literal with lines that end with LF does not have, each as
 /// the byte offset in that literal of the LF after it, in ascending order. Returns `Err` if an
 /// allocation fails.
-pub fn dropped_crs(alloc: Global, token: &str) -> Result<Vec<usize>, AllocError> {
+pub fn dropped_crs(alloc: Global, token: &str) -> Result<Vec<usize>, AllocError>
+    ensures { IfOk result (λ v. v.items ≡ dropped_crs 0 (chars token.now)) }
+{
     let mut offsets = Vec::new(alloc);
     if !token.contains('\r') {
         return Ok(offsets);
@@ -125,8 +128,11 @@ pub fn dropped_crs(alloc: Global, token: &str) -> Result<Vec<usize>, AllocError>
 }
 
 /// Returns the byte offset in a token of a byte offset in its literal with lines that end with LF,
-/// which does not have these CRs: those before it count.
-pub fn offset_in(crs: &[usize], offset: usize) -> usize {
+/// which does not have these CRs: those before it count. The CRs are those of [`dropped_crs`].
+pub fn offset_in(crs: &[usize], offset: usize) -> usize
+    ensures { (n : ℕ) × AreBefore crs.now offset n
+        × (offset + n < 2 ^ 64 → result ≡ offset + n) }
+{
     let mut low = 0;
     let mut high = crs.len();
     while low < high {

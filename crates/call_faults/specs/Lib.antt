@@ -6,6 +6,7 @@ pub mod Calls
 pub mod Clean
 pub mod Words
 pub mod Spots
+pub mod Directives
 pub mod Labels
 pub mod Notes
 pub mod Views

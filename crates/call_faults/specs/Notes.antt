@@ -17,6 +17,7 @@ use Rattle.call_faults.specs.Arguments.{FormatArgument}
 use Rattle.call_faults.specs.CallFaults.{CallFault, PositionalAfterNamed, RepeatedName, TextFault}
 use Rattle.call_faults.specs.CallFaults.{MissingName, UnknownTrait, MissingArguments}
 use Rattle.call_faults.specs.CallFaults.{UnusedArguments, RedundantArguments, NameUsedByIndex}
+use Rattle.call_faults.specs.Directives.{holds_directive}
 use Rattle.call_faults.specs.Labels.{Call, have_names, is_last, star_of}
 use Rattle.call_faults.specs.Spots.{Edit, Help, Note, edit, index_spot, plain_note}
 use Rattle.text_faults.specs.Spots.{bytes_at}
@@ -139,11 +140,12 @@ unused_notes c n = note_if
     (not (list_any are_missing c.faults) && (not (n == length c.kept) && nat_lt 1 n))
     (codes "consider adding " ++ specifiers n)
 
--- The help for unused arguments, where none is used and none is missing: as many placeholders at
--- the end of the literal.
+-- The help for unused arguments, where none is used, none is missing, and the string has no
+-- directive of another language: as many placeholders at the end of the literal.
 abbrev pub unused_help : Call → ℕ → Option Help
 unused_help c n =
-    if not (list_any are_missing c.faults) && n == length c.kept then Some (record {
+    if not (list_any are_missing c.faults) && n == length c.kept
+    && not (list_any holds_directive c.pieces) then Some (record {
       text = codes "format specifiers use curly braces, consider adding " ++ specifiers n;
       edits = edit LiteralEnd (placeholders n) ∷ [];
     }) else None

@@ -15,6 +15,7 @@ ghost use Rattle.call_faults.specs.Spots.{edit};
 
 use crate::arguments::FormatArgument;
 use crate::checker::CallReport;
+use crate::directives::hold_directives;
 use crate::faults::{CallFault, Part, Reference};
 use crate::labels::{have_names, is_last};
 use crate::notes::{are_missing, put_specifiers};
@@ -71,7 +72,7 @@ fn unused_help(
     ensures { IfOk result (λ o. option_map seen_help o
         ≡ unused_help (seen_call call.now) count) }
 {
-    if are_missing(&call.faults) || count != call.indices.len() {
+    if are_missing(&call.faults) || count != call.indices.len() || hold_directives(&call.pieces) {
         return Ok(None);
     }
     let message = "format specifiers use curly braces, consider adding ";

@@ -4,6 +4,7 @@
 mod arguments;
 mod checker;
 mod comparison;
+mod directives;
 mod faults;
 mod helps;
 mod labels;

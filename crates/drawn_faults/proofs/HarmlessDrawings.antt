@@ -35,6 +35,8 @@ use Rattle.drawn_lines.proofs.Harmless.{text as harmless_text, is_written, writt
 use Rattle.std.specs.List.{list_all}
 use Rattle.drawn_edits.proofs.HarmlessHelps.{of_edits, of_help_word}
 use Rattle.drawn_lines.proofs.HarmlessLines.{of_parting, of_glyphs, off, plain_frame, spaces, text}
+use Rattle.shown_text.proofs.OneLine.{one_line-harmless, shown-one_line}
+use Rattle.shown_text.specs.declared.gate.Kind.TheVariants.{Line}
 use Rattle.drawn_labels.proofs.HarmlessRows.{of_labelled, of_long, of_two}
 
 -- a suggestion
@@ -64,7 +66,8 @@ unfolding arrow
 of_arrow f at =
     join (spaces f.gutter.columns)
     (join (of_painted f.gutter.palette Secondary (harmless_text (codes "--> ") refl))
-    (join (of_glyphs f.picture.path) (join (text (codes ":") refl)
+    (join (plain (one_line-harmless (shown-one_line Line f.picture.path)))
+    (join (text (codes ":") refl)
     (join (plain (decimal-harmless (f.picture.line_start + at.line))) (join (text (codes ":") refl)
     (join (plain (decimal-harmless (at.chars + 1))) (text (codes "\n") refl)))))))
 

@@ -6,13 +6,15 @@ use Rattle.rustc_parse_format.specs.Types.{Mode}
 use Rattle.rustc_parse_format.specs.World.{Place}
 use Rattle.fault_fixes.specs.Edits.{offered_suggestion}
 use Rattle.drawn_lines.specs.Frames.{Frame}
-use Rattle.drawn_lines.specs.Glyphs.{glyph_bytes, run}
+use Rattle.drawn_lines.specs.Glyphs.{run}
 use Rattle.drawn_lines.specs.Painting.{painted_text, palette_of}
 use Rattle.drawn_lines.specs.Places.{Picture, offset}
 use Rattle.drawn_lines.specs.Positions.{IsSpot}
 use Rattle.drawn_lines.specs.declared.extent.Spot.{Spot}
 use Rattle.drawn_lines.specs.declared.paint.Palette.TheVariants.{Error}
 use Rattle.drawn_lines.specs.declared.paint.Style.TheVariants.{Secondary}
+use Rattle.shown_text.specs.Shown.{shown}
+use Rattle.shown_text.specs.declared.gate.Kind.TheVariants.{Line}
 use Rattle.drawn_labels.specs.Labels.{Label, mark_in}
 use Rattle.drawn_labels.specs.LongSigns.{AddsLong}
 use Rattle.drawn_labels.specs.Signs.{AddsLabels, AddsTwo, IsNarrow}
@@ -22,7 +24,7 @@ use Rattle.drawn_faults.specs.Labels.{edit_of, primary_label, second_label}
 -- A spot as an arrow names it: the path, the line, and the column, which counts characters from 1.
 abbrev pub spot_name : Picture → Spot → List ℕ
 spot_name p at =
-    glyph_bytes p.path
+    shown Line p.path
     ++ (codes ":" ++ (decimal (p.line_start + at.line)
     ++ (codes ":" ++ (decimal (at.chars + 1) ++ codes "\n"))))
 

@@ -7,6 +7,8 @@ use Rattle.rustc_parse_format.specs.Faults.{Message}
 use Rattle.rustc_parse_format.specs.Types.{Mode}
 use Rattle.fault_fixes.specs.Edits.{offered_suggestion}
 use Rattle.drawn_lines.specs.Glyphs.{glyph_bytes, run}
+use Rattle.shown_text.specs.Shown.{shown}
+use Rattle.shown_text.specs.declared.gate.Kind.TheVariants.{Line}
 use Rattle.drawn_lines.specs.Painting.{painted_text}
 use Rattle.drawn_lines.specs.Places.{Picture}
 use Rattle.drawn_labels.specs.Labels.{Label, mark_in, labelled_line, two_labels}
@@ -29,12 +31,12 @@ title p mode description =
     ++ (codes ": " ++ glyph_bytes description)))
     ++ codes "\n")
 
--- Where the text is that the error is about: the path, the line, and the column, which counts
--- characters.
+-- Where the text is that the error is about: the path in one line, the line, and the column, which
+-- counts characters.
 unfoldable pub arrow : Frame → Spot → List ℕ
 arrow f at =
     run f.gutter.columns 32 ++ (painted_text f.gutter.palette Secondary (codes "--> ")
-    ++ (glyph_bytes f.picture.path ++ (codes ":"
+    ++ (shown Line f.picture.path ++ (codes ":"
     ++ (decimal (f.picture.line_start + at.line) ++ (codes ":" ++ (decimal (at.chars + 1)
     ++ codes "\n"))))))
 

@@ -26,6 +26,7 @@ use drawn_lines::{
     put_glyphs, put_note_sign, put_opening, put_painted_text, put_parting, put_run,
 };
 use rustc_parse_format::{ParseError, ParseMode};
+use shown_text::{Kind, put_shown};
 use std::alloc::{AllocError, Global};
 
 /// Adds the start of all titles, up to the name of the text, in which the style goes on.
@@ -74,7 +75,7 @@ pub fn put_arrow(out: &mut String, frame: &Frame<'_>, at: Spot) -> Result<(), Al
     let column = at.chars + 1;
     put_run(out, ' ', frame.gutter.columns)?;
     put_painted_text(out, frame.gutter.palette, Style::Secondary, "--> ")?;
-    put_glyphs(out, frame.picture.path, 0)?;
+    put_shown(out, Kind::Line, frame.picture.path)?;
     out.push_str(":")?;
     put_decimal(out, line)?;
     out.push_str(":")?;

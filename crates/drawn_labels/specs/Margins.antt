@@ -1,7 +1,8 @@
 -- Which columns of the lines are drawn: those in which labels and their texts are, if that many
 -- columns are to be had. The rules are those of rustc 1.95.
-use Rattle.std.specs.Prelude.{ℕ, ◌+◌, ◌-◌, ◌*◌, ◌/◌, ◌^◌, ◌==◌, Bool, not, if◌then◌else◌, nat_le}
-use Rattle.std.specs.Prelude.{nat_lt, min, max, List, [], ◌∷◌, length, chars}
+use Prim.Native.Char.{code}
+use Rattle.std.specs.Prelude.{ℕ, ◌+◌, ◌-◌, ◌*◌, ◌/◌, ◌^◌, ◌==◌, ◌&&◌, Bool, not, if◌then◌else◌}
+use Rattle.std.specs.Prelude.{nat_le, nat_lt, min, max, List, [], ◌∷◌, length, chars}
 use Rattle.drawn_lines.specs.Places.{Picture, line}
 use Rattle.drawn_lines.specs.Windows.{columns}
 use Rattle.drawn_lines.specs.declared.paint.Gutter.{Gutter}
@@ -10,10 +11,10 @@ use Rattle.drawn_labels.specs.Labels.{Label, mark}
 use Rattle.drawn_labels.specs.Rows.{Mark}
 use Rattle.drawn_labels.specs.declared.margin.Reach.{Reach}
 
--- How many columns the text of a label is counted for, with the space in front of it: one for each
--- byte, and no more than 2^60.
-abbrev pub text_columns : List ℕ → ℕ
-text_columns bs = if length bs == 0 then 0 else 1 + min (length bs) (2 ^ 60)
+-- How many columns the text of a label with this sign is counted for, with the space in front of
+-- it: one for each byte, and no more than 2^60. That of a primary label counts if it has one.
+abbrev pub text_columns : ℕ → List ℕ → ℕ
+text_columns c bs = if c == code "^" && length bs == 0 then 0 else 1 + min (length bs) (2 ^ 60)
 
 -- How many columns a line of the source has.
 abbrev pub line_columns : List ℕ → ℕ → ℕ
@@ -25,7 +26,7 @@ unfoldable pub mark_reach : List ℕ → Mark → Reach
 mark_reach source m = record {
   start = m.start;
   end = m.end;
-  text_end = m.end + text_columns m.text;
+  text_end = m.end + text_columns m.sign m.text;
   longest = line_columns source m.line;
 }
 
@@ -50,7 +51,7 @@ long_reach source l = record {
       if nat_lt (l.extent.start.line + 1) l.extent.end.line then 0
       else min l.extent.start.column (l.extent.end.column - 1);
   end = max (l.extent.start.column + 1) l.extent.end.column;
-  text_end = max (l.extent.start.column + 1) (l.extent.end.column + text_columns l.text);
+  text_end = max (l.extent.start.column + 1) (l.extent.end.column + text_columns l.sign l.text);
   longest =
       max (line_columns source l.extent.start.line) (line_columns source l.extent.end.line);
 }

@@ -29,12 +29,13 @@ pub struct Reach {
 /// The most columns that the text of a label is counted for.
 const MAX_TEXT_LEN: usize = 1 << 60;
 
-/// Returns how many columns the text of a label is counted for, with the space in front of it.
-fn text_columns(text: &str) -> usize
-    ensures value { result ≡ text_columns text.now }
+/// Returns how many columns the text of a label with this sign is counted for, with the space in
+/// front of it: that of a primary label counts only if there is one.
+fn text_columns(sign: char, text: &str) -> usize
+    ensures value { result ≡ text_columns sign text.now }
     ensures few { result ≤ 2 ^ 60 + 1 }
 {
-    if text.is_empty() {
+    if sign == '^' && text.is_empty() {
         0
     } else {
         1 + text.len().min(MAX_TEXT_LEN)
@@ -94,7 +95,7 @@ fn mark_reach(source: &str, known_line: MeasuredLine, mark: &Mark<'_>) -> Reach
     Reach {
         start: mark.start,
         end: mark.end,
-        text_end: mark.end + text_columns(mark.text),
+        text_end: mark.end + text_columns(mark.sign, mark.text),
         longest: columns_of(source, mark.line, known_line),
     }
 }
@@ -147,7 +148,7 @@ fn long_reach(source: &str, label: &Label<'_>) -> Reach
     Reach {
         start: first_column,
         end: end.column.max(start.column + 1),
-        text_end: (end.column + text_columns(label.text)).max(start.column + 1),
+        text_end: (end.column + text_columns(label.sign, label.text)).max(start.column + 1),
         longest: first.max(line_columns(source, end.line)),
     }
 }

@@ -1,6 +1,7 @@
 -- A file with the suggestions to its faults applied.
 use Rattle.std.specs.Prelude.{◌≡◌, ◌⊎◌, ◌++◌, ◌∷◌, ◌≤◌, ℕ, zero, suc, Bool, List, [], Option, Some}
-use Rattle.std.specs.Prelude.{None, IsUtf8, chars, if◌then◌else◌, length, map, string_bytes}
+use Rattle.std.specs.Prelude.{None, IsTrue, IsUtf8, chars, if◌then◌else◌, length, map, string_bytes}
+use Rattle.std.specs.List.{list_all}
 use Rattle.std.specs.declared.alloc.Global.{Global}
 use Rattle.std.specs.declared.string.String.{String}
 use Rattle.fault_fixes.specs.Edits.{Edit, edited_bytes}
@@ -14,7 +15,7 @@ use Rattle.source_report.specs.declared.report.Finding.{Finding}
 use Rattle.source_report.specs.declared.report.Report.{Report}
 use Rattle.source_report.specs.Suggestions.{all_edits, edits_of, end_after, is_mended}
 use Rattle.source_report.specs.Suggestions.{mended_faults}
-use Rattle.file_fixes.specs.Outside.{KeepsTokens}
+use Rattle.file_fixes.specs.Outside.{KeepsTokens, is_known}
 
 -- The bytes of a text.
 abbrev pub bytes_or : Option (String Global) → List ℕ → List ℕ
@@ -70,15 +71,21 @@ unfoldable pub OthersStay : List ℕ → Report → List ℕ → Type 0
 OthersStay bs r cs = (xs ys : List Lexeme) × AreTokens bs cs xs ys
     × KeepsTokens (round_edits r) (placed_tokens 0 xs) (placed_tokens 0 ys)
 
--- Some token that no edit touches does not stay.
+-- The file with the bytes cs lexes: all its tokens are known.
+unfoldable pub Lexes : List ℕ → Type 0
+Lexes cs = (ys : List Lexeme) × ReadsFile (chars cs) ys
+    × IsTrue (list_all is_known (placed_tokens 0 ys))
+
+-- Some token that no edit touches does not stay, or some token of the bytes cs is not known.
 unfoldable pub OthersGo : List ℕ → Report → List ℕ → Type 0
 OthersGo bs r cs = (xs ys : List Lexeme) × AreTokens bs cs xs ys
-    × (KeepsTokens (round_edits r) (placed_tokens 0 xs) (placed_tokens 0 ys) → ⊥)
+    × (KeepsTokens (round_edits r) (placed_tokens 0 xs) (placed_tokens 0 ys)
+    × IsTrue (list_all is_known (placed_tokens 0 ys)) → ⊥)
 
 -- In a round the file with the bytes bs and the report r, of which faults are mended, becomes the
 -- bytes cs with the report q. The mended faults have the ids ws. The other faults stay, and at most
 -- as many others come as are mended. All tokens that no edit touches stay, and no others come but
--- where the edits are.
+-- where the edits are. The file lexes.
 pub record IsRound (es : List Entry) (is_new : Bool) (bs : List ℕ) (r : Report) (cs : List ℕ)
     (q : Report) (ws : List (List ℕ)) : Type 0 where
   pub text : cs ≡ mended_bytes bs r
@@ -87,10 +94,11 @@ pub record IsRound (es : List Entry) (is_new : Bool) (bs : List ℕ) (r : Report
   pub no_worse : IsNoWorse r q
   pub faults : FaultsStay r.findings.items q.findings.items
   pub tokens : OthersStay bs r cs
+  pub lexes : Lexes cs
 
 -- No round follows on the file with the bytes bs and the report r: no fault is to be mended, or the
 -- file with the edits is no text, or is worse, or lacks a fault that is not mended, or has other
--- tokens where no edit is.
+-- tokens where no edit is, or does not lex.
 abbrev pub IsLast : List Entry → Bool → List ℕ → Report → Type 0
 IsLast es is_new bs r = (mended_faults 0 r.findings.items ≡ [])
     ⊎ ((IsUtf8 (mended_bytes bs r) → ⊥)

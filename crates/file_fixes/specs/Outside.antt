@@ -1,9 +1,11 @@
--- The tokens of a file that no edit touches.
-use Rattle.std.specs.Prelude.{◌≡◌, ◌+◌, ◌-◌, ◌||◌, ℕ, Bool, List, [], ◌∷◌, length, map, nat_le}
-use Rattle.std.specs.Prelude.{if◌then◌else◌}
+-- The tokens of a file that no edit touches, and tokens that are none of Rust.
+use Rattle.std.specs.Prelude.{◌≡◌, ◌+◌, ◌-◌, ◌||◌, ◌&&◌, ℕ, Bool, true, false, not, List, [], ◌∷◌}
+use Rattle.std.specs.Prelude.{length, map, nat_le, if◌then◌else◌}
 use Rattle.std.specs.List.{filter, list_all}
 use Rattle.std.specs.declared.ops.Range.{Range}
 use Rattle.fault_fixes.specs.Edits.{Edit}
+use Rattle.rust_tokens.specs.declared.kinds.Kind.{Kind}
+use Rattle.rust_tokens.specs.declared.kinds.Kind.TheVariants.{Unknown}
 use Rattle.rust_tokens.specs.declared.kinds.Token.{Token}
 
 -- The byte ranges of a text that edits replace.
@@ -47,3 +49,12 @@ untouched_tokens rs ts = map (λ t. moved_token (width_before t.span.start rs) t
 -- same places but for what the edits remove and add. White space and comments are tokens too.
 abbrev pub KeepsTokens : List Edit → List Token → List Token → Type 0
 KeepsTokens es ts us = untouched_tokens (old_ranges es) ts ≡ untouched_tokens (new_ranges 0 0 es) us
+
+-- A character that begins no token of another kind.
+abbrev pub is_unknown : Kind → Bool
+is_unknown Unknown = true
+is_unknown k = false
+
+-- The token has its end, and is no character that begins no token.
+abbrev pub is_known : Token → Bool
+is_known t = t.is_ended && not (is_unknown t.kind)

@@ -1,18 +1,19 @@
-//! The tokens of a file that no edit touches.
+//! The tokens of a file that no edit touches, and whether all are tokens of Rust.
 
 ghost use Rattle.std.specs.Prelude.{◌≡◌, ◌≤◌, ◌+◌, ◌↔◌, IfOk, IsTrue, List, chars, drop, map};
+ghost use Rattle.std.specs.List.{list_all};
 ghost use Rattle.std.specs.Prelude.{nat_le};
 ghost use Rattle.fault_fixes.specs.SeenEdits.{seen_edit};
 ghost use Rattle.rust_tokens.specs.Files.{ReadsFile};
 ghost use Rattle.rust_tokens.specs.Spans.{placed_tokens};
 ghost use Rattle.rust_tokens.specs.Tokens.{Lexeme};
 ghost use Rattle.source_report.specs.Suggestions.{are_after};
-ghost use Rattle.file_fixes.specs.Outside.{KeepsTokens, moved_token};
+ghost use Rattle.file_fixes.specs.Outside.{KeepsTokens, is_known, moved_token};
 ghost use Rattle.file_fixes.specs.Walk.{place_after, from_start, is_before, new_parts, old_parts};
 ghost use Rattle.file_fixes.specs.Walk.{seen_ahead, walk};
 
 use fault_fixes::Edit;
-use rust_tokens::{Token, tokens};
+use rust_tokens::{Kind, Token, tokens};
 use std::alloc::{AllocError, Global};
 
 /// A part of a text that an edit removes from it, or has put into it.
@@ -147,8 +148,27 @@ fn are_same(old: &[Token], new: &[Token]) -> bool
     old == new
 }
 
-/// Returns whether the tokens that no edit touches are the same in a text and in the edited text.
-/// Returns `Err` if an allocation fails.
+/// Returns whether a token has its end, and is no character that begins no token.
+fn is_known(token: &Token) -> bool
+    ensures { result ≡ is_known token.now }
+{
+    token.is_ended && !matches!(token.kind, Kind::Unknown)
+}
+
+/// Returns whether all tokens are known.
+fn are_known(tokens: &[Token]) -> bool
+    ensures { result ≡ list_all is_known tokens.now }
+{
+    for token in tokens {
+        if !is_known(token) {
+            return false;
+        }
+    }
+    true
+}
+
+/// Returns whether the tokens that no edit touches are the same in a text and in the edited text,
+/// of which all tokens are known. Returns `Err` if an allocation fails.
 pub(crate) fn keeps_tokens(
     alloc: Global,
     old: &str,
@@ -158,10 +178,14 @@ pub(crate) fn keeps_tokens(
     requires { IsTrue (are_after 0 (map seen_edit edits.now)) }
     ensures { IfOk result (λ b. (xs ys : List Lexeme) × ReadsFile (chars old.now) xs
         × ReadsFile (chars new.now) ys × (IsTrue b
-        ↔ KeepsTokens (map seen_edit edits.now) (placed_tokens 0 xs) (placed_tokens 0 ys))) }
+        ↔ KeepsTokens (map seen_edit edits.now) (placed_tokens 0 xs) (placed_tokens 0 ys)
+        × IsTrue (list_all is_known (placed_tokens 0 ys)))) }
 {
     let old_tokens = tokens(alloc, old)?;
     let new_tokens = tokens(alloc, new)?;
+    if !are_known(new_tokens.as_slice()) {
+        return Ok(false);
+    }
     let old_others = untouched_tokens(
         alloc,
         old_parts(alloc, edits)?.as_slice(),

@@ -8,7 +8,7 @@ ghost use Rattle.asm_lint.specs.Spans.{HasSpans};
 ghost use Rattle.source_lint.specs.Reports.{IsReport};
 ghost use Rattle.source_report.specs.declared.report.Report.{Report as ReportValue};
 ghost use Rattle.file_fixes.specs.FileFixes.{AreRounds, FaultsStay, OthersGo, OthersStay};
-ghost use Rattle.file_fixes.specs.FileFixes.{IsLast, IsNoWorse, IsRound, bytes_or};
+ghost use Rattle.file_fixes.specs.FileFixes.{IsLast, IsNoWorse, IsRound, Lexes, bytes_or};
 
 use crate::fault_search::keeps_unmended;
 use crate::outside::keeps_tokens;
@@ -64,10 +64,11 @@ fn keeps_faults(alloc: Global, old: &Report, new: &Report) -> Result<bool, Alloc
 }
 
 /// Returns whether the tokens that no edit of a round touches are the same in a file before and
-/// after the round. Returns `Err` if an allocation fails.
+/// after the round, and it lexes after the round. Returns `Err` if an allocation fails.
 #[tactic(auto, unfolding(crate::specs::FileFixes::OthersStay, crate::specs::FileFixes::OthersGo))]
 fn keeps_others(alloc: Global, old: &str, report: &Report, new: &str) -> Result<bool, AllocError>
-    ensures yes { IfOk result (λ b. IsTrue b → OthersStay old.now report.now new.now) }
+    ensures yes { IfOk result (λ b. IsTrue b → OthersStay old.now report.now new.now
+        × Lexes new.now) }
     ensures no { IfOk result (λ b. IsFalse b → OthersGo old.now report.now new.now) }
 {
     let edits = round_edits(alloc, report.findings.as_slice())?;
@@ -75,8 +76,8 @@ fn keeps_others(alloc: Global, old: &str, report: &Report, new: &str) -> Result<
 }
 
 /// Returns a file after one more round, or `None` if there is nothing to mend or the file with its
-/// edits is worse, lacks a fault that is not mended or has other tokens where no edit is. Returns
-/// `Err` if an allocation fails.
+/// edits is worse, lacks a fault that is not mended, has other tokens where no edit is or does not
+/// lex. Returns `Err` if an allocation fails.
 fn next_round(
     alloc: Global,
     text: &str,
@@ -138,10 +139,10 @@ fn with_round(file_fixes: FileFixes, round: Round) -> Result<FileFixes, AllocErr
 ///
 /// A round applies the suggestions of all faults whose edits follow each other. The next round does
 /// the same with the new report; there are at most sixteen. A round is left out, and none follows,
-/// if the file then breaks, has another number of calls, more faults, or other tokens where no edit
-/// is, or if a fault that it does not mend is gone. So a round changes only the tokens that its
-/// edits touch, the other faults stay, and at most as many new ones come as it mends. Nothing is
-/// fixed in a file that breaks. Returns `Err` if an allocation fails.
+/// if the file then breaks or does not lex, has another number of calls, more faults, or other
+/// tokens where no edit is, or if a fault that it does not mend is gone. So a round changes only
+/// the tokens that its edits touch, the other faults stay, and at most as many new ones come as it
+/// mends. Nothing is fixed in a file that breaks. Returns `Err` if an allocation fails.
 pub fn fixes(alloc: Global, text: &str, options: &Options<'_>) -> Result<FileFixes, AllocError>
     ensures rounds { IfOk result (λ x. (r : ReportValue)
         × IsReport (map entry options.now.table.rows.items) options.now.is_from_2021 text.now r

@@ -11,7 +11,7 @@ use std::alloc::{AllocError, Global};
 use std::ops::Range;
 
 /// The most bytes of a file that a drawing is about, and the most bytes of a line of it.
-const MOST: usize = 4096;
+pub const MOST: usize = 4096;
 /// The most labels of a drawing.
 const MOST_LABELS: usize = 20;
 

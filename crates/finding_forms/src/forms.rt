@@ -2,8 +2,7 @@
 
 ghost use Rattle.std.specs.Prelude.{◌≡◌};
 
-use crate::drawings::put_drawing;
-use drawn_lines::WIDTH;
+use crate::drawings::{MOST, put_drawing};
 use fault_rules::RULES;
 use lint_words::Form;
 use message_forms::{
@@ -55,42 +54,53 @@ fn trait_suggestion(id: &str, number: usize) -> Option<LabelSuggestion> {
 }
 
 /// Returns the lines of a text around a range, without the last LF and a byte order mark at the
-/// start of the text.
-fn lines_around(text: &str, start: usize, end: usize) -> &str {
-    let (front, _) = text.split_at(text.floor_char_boundary(start));
-    let line_start = match front.rsplit_once('\n') {
-        Some((head, _)) => head.len() + 1,
+/// start of the text, or `None` if they have more bytes than a drawing is about.
+fn lines_around(text: &str, start: usize, end: usize) -> Option<&str> {
+    let window_start = text.floor_char_boundary(start.saturating_sub(MOST + 1));
+    let line_start = match text.get(window_start..start)?.rsplit_once('\n') {
+        Some((head, _)) => window_start.saturating_add(head.len()).saturating_add(1),
+        None if window_start > 0 => return None,
         None => text.len() - text.strip_prefix('\u{feff}').unwrap_or(text).len(),
     };
-    let (_, rest) = text.split_at(text.floor_char_boundary(end));
-    let line_end = text.len()
-        - match rest.split_once('\n') {
-            Some((line, _)) => rest.len() - line.len(),
-            None => 0,
-        };
-    text.get(line_start..line_end).unwrap_or("")
+    let window_end = text.floor_char_boundary(end.saturating_add(MOST + 1));
+    let line_end = match text.get(end..window_end)?.split_once('\n') {
+        Some((tail, _)) => end.saturating_add(tail.len()),
+        None if window_end < text.len() => return None,
+        None => text.len(),
+    };
+    let lines = text.get(line_start..line_end)?;
+    if lines.len() > MOST {
+        None
+    } else {
+        Some(lines)
+    }
 }
 
-/// Returns a range of a file as messages have it, without a label or a suggestion.
-fn span_of<'a>(file: &File<'a>, form: Form, range: &Range<usize>) -> Span<'a>
+/// Returns a range of a file as messages have it, without its lines, a label or a suggestion.
+fn span_of<'a>(file: &File<'a>, range: &Range<usize>) -> Span<'a>
     requires { file.now.places ≡ file.now.text.now }
 {
     let byte_start = file.text.floor_char_boundary(range.start);
     let byte_end = file.text.floor_char_boundary(range.end);
-    let lines = match form {
-        Form::Json => lines_around(file.text, byte_start, byte_end),
-        _ => "",
-    };
     Span {
         byte_start,
         byte_end,
         start: file.places.place_of(byte_start),
         end: file.places.place_of(byte_end),
-        lines,
+        lines: None,
         is_primary: true,
         label: None,
         suggestion: None,
     }
+}
+
+/// Returns a range of a file as messages of JSON have it, without a label or a suggestion.
+fn json_span<'a>(file: &File<'a>, range: &Range<usize>) -> Span<'a>
+    requires { file.now.places ≡ file.now.text.now }
+{
+    let mut span = span_of(file, range);
+    span.lines = lines_around(file.text, span.byte_start, span.byte_end);
+    span
 }
 
 /// Returns the level of a finding.
@@ -119,7 +129,7 @@ fn label_spans<'a>(
             continue;
         }
         has_primary = has_primary || label.is_primary;
-        let mut span = span_of(file, Form::Json, &label.range);
+        let mut span = json_span(file, &label.range);
         span.is_primary = label.is_primary;
         if !label.text.is_empty() && !is_suggestion {
             span.label = Some(label.text.as_str());
@@ -145,7 +155,7 @@ fn edit_spans<'a>(
 {
     let mut spans = Vec::new(alloc);
     for edit in &help.edits {
-        let mut span = span_of(file, Form::Json, &edit.range);
+        let mut span = json_span(file, &edit.range);
         span.suggestion = Some(Suggestion {
             text: edit.text.as_str(),
             is_sure,
@@ -165,7 +175,7 @@ fn suggestion_spans<'a>(
 ) -> Result<Vec<Span<'a>>, AllocError>
     requires { file.now.places ≡ file.now.text.now }
 {
-    let mut span = span_of(file, Form::Json, range);
+    let mut span = json_span(file, range);
     span.suggestion = Some(Suggestion {
         text: suggestion.text,
         is_sure: suggestion.is_sure,
@@ -188,7 +198,7 @@ fn child_spans<'a>(
     for note in &finding.notes {
         let mut spans = Vec::new(alloc);
         for range in &note.ranges {
-            spans.push(span_of(file, Form::Json, range))?;
+            spans.push(json_span(file, range))?;
         }
         all.push(spans)?;
     }
@@ -278,9 +288,11 @@ fn put_human(
     put_short(out, message)
 }
 
-/// Appends a message as a line of JSON. Returns `Err` if an allocation fails.
+/// Appends a message as a line of JSON, with a drawing of this width. Returns `Err` if an
+/// allocation fails.
 fn put_line<'a>(
     out: &mut String,
+    width: usize,
     file: &'a File<'a>,
     finding: &'a Finding,
     message: &Message<'a>,
@@ -289,7 +301,7 @@ fn put_line<'a>(
 {
     let alloc = *out.allocator();
     let mut rendered = String::new(alloc);
-    put_human(&mut rendered, false, WIDTH, file, finding, message)?;
+    put_human(&mut rendered, false, width, file, finding, message)?;
     let spans = label_spans(alloc, file, finding)?;
     let ranges = child_spans(alloc, file, finding)?;
     let children = children(alloc, finding, ranges.as_slice())?;
@@ -317,14 +329,14 @@ pub fn put_finding<'a>(
         id: finding.id,
         title: finding.title.as_str(),
         path: file.path,
-        primary: span_of(file, form, &finding.span),
+        primary: span_of(file, &finding.span),
     };
     match form {
         Form::Human { colours, width } => {
             put_human(out, colours, width, file, finding, &message)
         }
         Form::Short => put_short(out, &message),
-        Form::Json => put_line(out, file, finding, &message),
+        Form::Json { width } => put_line(out, width, file, finding, &message),
         Form::Github => put_github(out, &message),
         Form::Sarif => put_sarif_result(out, is_first, &message),
     }

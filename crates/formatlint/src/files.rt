@@ -2,16 +2,22 @@
 
 ghost use Rattle.std.specs.Prelude.{◌≡◌};
 
-use crate::rewrites::{Rewrite, apply_rewrite};
+use crate::package_names::PackageNames;
+use crate::rewrites::{Rewrite, RewrittenFile, apply_rewrite, keep_certain};
 use crate::totals::Totals;
 use crate::walk::Walk;
 use finding_forms::{File, put_end, put_finding, put_start};
-use lint_program::{Change, Editions, Failure, Recorder, is_option, print_hint, replace};
+use lint_program::{
+    Change, Failure, LeftText, Recorder, is_option, print_hint, replace, shown_bytes,
+};
 use lint_words::Form;
+use manifest::{FileRules, Package, Packages};
 use piece_listing::run::write_whole;
 use rust_trees::{BreakKind, Places};
+use shown_text::{Kind, put_shown};
 use source_lint::file_faults;
 use source_report::{Options, Report};
+use std::alloc::AllocError;
 use std::io::Read;
 use std::{fs, io};
 use unified_diff::put_diff;
@@ -21,6 +27,9 @@ const MOST: usize = 64 << 20;
 
 /// The number of bytes of messages above which they are written, although more may come.
 const CHUNK: usize = 1 << 16;
+
+/// The id of the warning that a named argument is used by its index.
+const POSITION_ID: &str = "name-used-by-index";
 
 /// A request to read files and folders.
 #[derive(Drop)]
@@ -48,7 +57,8 @@ pub struct Request<'a> {
 struct Run<'a> {
     request: &'a Request<'a>,
     options: Options<'a>,
-    editions: Editions<'a>,
+    packages: Packages,
+    names: PackageNames,
     totals: Totals,
     /// The text that is still to be written.
     out: String,
@@ -82,6 +92,12 @@ fn write_bytes(rt: &HostRuntime, bytes: &[u8]) -> Result<(), Failure> {
             error: writer.error,
         }),
     }
+}
+
+/// Writes bytes of a file to standard output, on a terminal as drawings have them.
+fn write_shown(rt: &HostRuntime, bytes: &[u8]) -> Result<(), Failure> {
+    let mut drawing = String::new(rt.alloc());
+    write_bytes(rt, shown_bytes(rt, bytes, &mut drawing)?)
 }
 
 impl<'a> Run<'a> {
@@ -187,6 +203,13 @@ fn add_break(
     }
 }
 
+/// Takes the warnings out of a report that the manifest of the file allows.
+fn drop_allowed(report: &mut Report, rules: FileRules) {
+    if !rules.warns_of_positions {
+        report.findings.retain(|finding| finding.id != POSITION_ID);
+    }
+}
+
 /// Reads a stream up to its end or the most bytes that are read.
 fn read_all<R: Read + Drop>(rt: &HostRuntime, stream: R) -> io::Result<Vec<u8>> {
     let mut bytes = Vec::with_capacity(rt.alloc(), CHUNK)?;
@@ -194,13 +217,41 @@ fn read_all<R: Read + Drop>(rt: &HostRuntime, stream: R) -> io::Result<Vec<u8>> 
     Ok(bytes)
 }
 
+/// An open file, and the bytes that were read of it.
+#[derive(Drop)]
+struct SourceFile {
+    file: fs::File,
+    bytes: Vec<u8>,
+}
+
+/// Opens a file and reads it. Returns `None` if a walk found it and it does not lie there any more.
+fn open_source(
+    rt: &HostRuntime,
+    path: &str,
+    walk: Option<&Walk<'_>>,
+) -> io::Result<Option<SourceFile>> {
+    let file = fs::open(rt, path)?;
+    if let Some(walk) = walk {
+        if !walk.holds(rt, path, &file)? {
+            return Ok(None);
+        }
+    }
+    let bytes = read_all(rt, &file)?;
+    Ok(Some(SourceFile { file, bytes }))
+}
+
 /// Where the bytes of a file are from.
-#[derive(Clone, Copy, PartialEq)]
-enum Origin {
-    /// A file.
-    File,
+#[derive(Clone, Copy)]
+enum Origin<'f> {
+    /// A file, which is still open.
+    File(&'f fs::File),
     /// Standard input.
     Stdin,
+}
+
+/// Returns the package of a file of which the project says this, or `None` if it is of none.
+fn package_of(packages: &Packages, rules: FileRules) -> Option<&Package> {
+    packages.package(rules.package?)
 }
 
 impl<'a> Run<'a> {
@@ -232,7 +283,7 @@ impl<'a> Run<'a> {
         &mut self,
         rt: &HostRuntime,
         path: &str,
-        origin: Origin,
+        origin: Origin<'_>,
         change: Change,
         old: &str,
         new: &str,
@@ -242,21 +293,51 @@ impl<'a> Run<'a> {
             Change::Diff => {
                 let mut diff = String::new(rt.alloc());
                 put_diff(&mut diff, path, old, new)?;
-                write(rt, diff.as_str())?;
+                write_shown(rt, diff.as_bytes())?;
             }
             Change::Check => {
-                write(rt, path)?;
-                write(rt, "\n")?;
+                let mut line = String::new(rt.alloc());
+                put_shown(&mut line, Kind::Line, path)?;
+                line.push('\n')?;
+                write(rt, line.as_str())?;
             }
-            Change::Write if origin == Origin::Stdin => write(rt, new)?,
             Change::Write => {
-                if let Err(failure) = replace(rt, path, old.as_bytes(), new.as_bytes()) {
+                let Origin::File(file) = origin else {
+                    write_shown(rt, new.as_bytes())?;
+                    return Ok(true);
+                };
+                if let Err(failure) = replace(rt, path, file, old.as_bytes(), new.as_bytes()) {
                     self.totals.fail_step(rt, path, &failure);
-                    return Ok(false);
+                    return Ok(failure.left == LeftText::New);
                 }
             }
         }
         Ok(true)
+    }
+
+    /// Returns a text with what the request changes in it, in calls whose macro is known for
+    /// certain. The facts of the package are read only if any call would change.
+    fn rewritten(
+        &mut self,
+        rt: &HostRuntime,
+        text: &str,
+        origin: Origin<'_>,
+        rules: FileRules,
+    ) -> Result<RewrittenFile, AllocError> {
+        let mut rewrite = self.request.rewrite;
+        rewrite.inlines = rewrite.inlines && rules.may_inline;
+        let outcome = apply_rewrite(rt.alloc(), text, &self.options, rewrite)?;
+        if outcome.text.is_none() {
+            return Ok(outcome);
+        }
+        let package = package_of(&self.packages, rules);
+        if matches!(origin, Origin::Stdin) {
+            self.names.read_with(rt, package, text)?;
+        } else {
+            self.names.read(rt, package, text)?;
+        }
+        let facts = &self.names.facts;
+        keep_certain(rt.alloc(), text, &self.options, facts, rewrite, outcome)
     }
 
     /// Changes a file that was read whole, and writes what the request wants of it.
@@ -265,21 +346,23 @@ impl<'a> Run<'a> {
         rt: &HostRuntime,
         path: &str,
         text: &str,
-        origin: Origin,
+        origin: Origin<'_>,
         change: Change,
+        rules: FileRules,
     ) -> Result<(), Failure> {
-        let outcome = apply_rewrite(rt.alloc(), text, &self.options, self.request.rewrite)?;
-        let is_source = origin == Origin::Stdin && change == Change::Write;
+        let mut outcome = self.rewritten(rt, text, origin, rules)?;
+        drop_allowed(&mut outcome.report, rules);
+        let is_source = matches!(origin, Origin::Stdin) && change == Change::Write;
         let Some(new) = &outcome.text else {
             if is_source {
-                write(rt, text)?;
+                write_shown(rt, text.as_bytes())?;
             }
             self.totals.add(&outcome.report);
             self.totals.add_inlinings(&outcome);
             return self.put_report(rt, path, text, Extent::Whole, &outcome.report);
         };
         if !self.put_rewritten(rt, path, origin, change, text, new.as_str())? {
-            return self.report(rt, path, text, Extent::Whole);
+            return self.report(rt, path, text, Extent::Whole, rules);
         }
         self.totals.add(&outcome.report);
         self.totals.add_inlinings(&outcome);
@@ -294,10 +377,25 @@ impl<'a> Run<'a> {
         path: &str,
         text: &str,
         extent: Extent,
+        rules: FileRules,
     ) -> Result<(), Failure> {
-        let report = file_faults(rt.alloc(), text, &self.options)?;
+        let mut report = file_faults(rt.alloc(), text, &self.options)?;
+        drop_allowed(&mut report, rules);
         self.totals.add(&report);
         self.put_report(rt, path, text, extent, &report)
+    }
+
+    /// Returns what the project says of a file. The reason why its manifest was not understood is
+    /// written, the first time.
+    fn rules(&mut self, rt: &HostRuntime, path: &str) -> Result<FileRules, Failure> {
+        let rules = match self.packages.rules(rt, path) {
+            Ok(rules) => rules,
+            Err(error) => return Err(Failure::new(error)),
+        };
+        if let Some(failure) = self.packages.new_failure(rules) {
+            self.totals.fail_manifest(rt, failure);
+        }
+        Ok(rules)
     }
 
     /// Reads the bytes of a file, and writes the messages about it.
@@ -306,23 +404,24 @@ impl<'a> Run<'a> {
         rt: &HostRuntime,
         path: &str,
         bytes: &[u8],
-        origin: Origin,
+        origin: Origin<'_>,
     ) -> Result<(), Failure> {
         let FileText { text, extent } = text_of(bytes);
-        self.options.is_from_2021 = match self.editions.is_from_2021(rt, path) {
-            Ok(is_from_2021) => is_from_2021,
-            Err(error) => return Err(Failure::new(error)),
-        };
+        let rules = self.rules(rt, path)?;
+        self.options.is_from_2021 = rules.edition.is_from_2021();
         let Some(change) = self.request.change else {
-            return self.report(rt, path, text, extent);
+            return self.report(rt, path, text, extent, rules);
         };
         match extent {
-            Extent::Whole => self.change_file(rt, path, text, origin, change),
-            Extent::Text if origin == Origin::Stdin && change == Change::Write => {
-                write_bytes(rt, bytes)?;
-                self.report(rt, path, text, extent)
+            Extent::Whole if rules.may_write => {
+                self.change_file(rt, path, text, origin, change, rules)
             }
-            Extent::Text | Extent::Front => self.report(rt, path, text, extent),
+            Extent::Whole | Extent::Text
+                if matches!(origin, Origin::Stdin) && change == Change::Write => {
+                write_shown(rt, bytes)?;
+                self.report(rt, path, text, extent, rules)
+            }
+            _ => self.report(rt, path, text, extent, rules),
         }
     }
 
@@ -339,14 +438,21 @@ impl<'a> Run<'a> {
         }
     }
 
-    /// Reads a file.
-    fn lint_file(&mut self, rt: &HostRuntime, path: &str) -> Result<(), Failure> {
-        let result = match fs::open(rt, path) {
-            Ok(file) => read_all(rt, file),
-            Err(error) => Err(error),
-        };
-        match result {
-            Ok(bytes) => self.lint(rt, path, bytes.as_slice(), Origin::File),
+    /// Reads a file, which a walk found or the request names.
+    fn lint_file(
+        &mut self,
+        rt: &HostRuntime,
+        path: &str,
+        walk: Option<&Walk<'_>>,
+    ) -> Result<(), Failure> {
+        match open_source(rt, path, walk) {
+            Ok(Some(SourceFile { file, bytes })) => {
+                self.lint(rt, path, bytes.as_slice(), Origin::File(&file))
+            }
+            Ok(None) => {
+                self.totals.fail_for(rt, path, "another program moved it");
+                Ok(())
+            }
             Err(error) => {
                 self.totals.fail(rt, path, &error);
                 Ok(())
@@ -356,14 +462,18 @@ impl<'a> Run<'a> {
 
     /// Reads the files below a folder.
     fn lint_folder(&mut self, rt: &HostRuntime, path: &str) -> Result<(), Failure> {
-        let mut walk = Walk::new(rt.alloc(), path, self.request.excluded_names)?;
+        let mut walk = Walk::new(rt, path, self.request.excluded_names)?;
+        if let Err(error) = self.packages.enter(rt, path) {
+            return Err(Failure::new(error));
+        }
         for _ in 0..u64::MAX {
             match walk.next(rt, &mut self.totals)? {
-                Some(path) => self.lint_file(rt, path.as_str())?,
+                Some(path) => self.lint_file(rt, path.as_str(), Some(&walk))?,
                 None => break,
             }
             self.totals.show_progress(rt);
         }
+        self.packages.leave();
         Ok(())
     }
 
@@ -374,7 +484,7 @@ impl<'a> Run<'a> {
         }
         match fs::metadata(rt, path) {
             Ok(data) if data.is_dir() => self.lint_folder(rt, path),
-            Ok(_) => self.lint_file(rt, path),
+            Ok(_) => self.lint_file(rt, path, None),
             Err(error) => {
                 self.totals.fail(rt, path, &error);
                 if is_option(path) {
@@ -423,7 +533,8 @@ pub fn lint<'a>(
     let mut run = Run {
         request,
         options,
-        editions: Editions::new(rt, request.edition),
+        packages: Packages::new(rt, request.edition, request.rewrite.inlines),
+        names: PackageNames::new(rt),
         totals: Totals::new(rt),
         out: String::new(rt.alloc()),
         has_messages: false,

@@ -3,6 +3,7 @@
 
 mod files;
 mod inlinings;
+mod package_names;
 mod rewrites;
 mod totals;
 mod walk;
@@ -18,6 +19,7 @@ use lint_program::{
 };
 use lint_words::Form;
 use rewrites::Rewrite;
+use shown_text::{Kind, put_shown};
 use source_report::Options;
 use std::alloc::{AllocError, Global};
 use std::env;
@@ -75,9 +77,17 @@ fn similar_id(alloc: Global, word: &str) -> Result<Option<&'static str>, AllocEr
     Ok(id)
 }
 
+/// Returns a word as messages have it. Returns `Err` if an allocation fails.
+fn shown_word(alloc: Global, word: &str) -> Result<String, AllocError> {
+    let mut out = String::new(alloc);
+    put_shown(&mut out, Kind::Line, word)?;
+    Ok(out)
+}
+
 /// Returns the error that no kind of fault has this id.
-fn id_error(rt: &HostRuntime, id: &str) -> Result<u8, Error> {
-    let reason = match similar_id(rt.alloc(), id)? {
+fn id_error(rt: &HostRuntime, wrong_id: &str) -> Result<u8, Error> {
+    let id = shown_word(rt.alloc(), wrong_id)?;
+    let reason = match similar_id(rt.alloc(), wrong_id)? {
         Some(similar_id) => format!(in rt.alloc();
             "no kind of fault has the id '{id}'\n\n  tip: a similar id exists: '{similar_id}'"
         )?,
@@ -150,7 +160,7 @@ fn read_files(
             totals.show_inlinings(rt);
         }
     }
-    if !matches.get_flag("quiet") && !matches!(request.form, Form::Json | Form::Sarif) {
+    if !matches.get_flag("quiet") && !matches!(request.form, Form::Json { .. } | Form::Sarif) {
         totals.sum_up(rt, is_preview(request.change));
     }
     status_of(&totals, request.change)
@@ -160,7 +170,8 @@ fn read_files(
 fn files_status(rt: &HostRuntime, matches: &ArgMatches<'_>) -> Result<u8, Error> {
     let table = match table_of(rt.alloc(), matches.get_strs("macro").unwrap_or(&[])) {
         Ok(table) => table,
-        Err(Some(word)) => {
+        Err(Some(wrong_word)) => {
+            let word = shown_word(rt.alloc(), wrong_word)?;
             let reason = format!(in rt.alloc();
                 "invalid value '{word}' for '--macro <NAME:INDEX>': \
                 it is the name of a macro and a number, as in say:0"
@@ -199,10 +210,27 @@ fn files_status(rt: &HostRuntime, matches: &ArgMatches<'_>) -> Result<u8, Error>
     Ok(read_files(rt, matches, &request, options))
 }
 
+/// Returns the error of words that are wrong, which quotes them as messages have them: so they are
+/// wrong for the same reason, as no option or value of one has a character that only messages have.
+/// Returns the given error if the words are not wrong, but an allocation failed.
+fn words_error(rt: &HostRuntime, words: &[String], error: Error) -> Result<u8, Error> {
+    let mut shown_words = Vec::new(rt.alloc());
+    for word in words {
+        shown_words.push(shown_word(rt.alloc(), word.as_str())?)?;
+    }
+    match command(rt.alloc())?.try_get_matches_from(shown_words.as_slice()) {
+        Ok(_) => Err(error),
+        Err(shown_error) => Err(shown_error),
+    }
+}
+
 /// Reads the arguments of the program and runs their task. Returns the exit status, and `Err` if
 /// the arguments are invalid or request help or the version, or if an allocation fails.
 fn status(rt: &HostRuntime, words: &[String]) -> Result<u8, Error> {
-    let matches = command(rt.alloc())?.try_get_matches_from(words)?;
+    let matches = match command(rt.alloc())?.try_get_matches_from(words) {
+        Ok(matches) => matches,
+        Err(error) => return words_error(rt, words, error),
+    };
     if matches.get_flag("list-ids") {
         let mut out = String::new(rt.alloc());
         put_ids(&mut out)?;

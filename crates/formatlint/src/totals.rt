@@ -3,8 +3,9 @@
 use crate::inlinings::{Inlinings, NO_CALLS};
 use crate::rewrites::RewrittenFile;
 use format_calls::Reason;
-use lint_program::{Progress, StepFailure};
+use lint_program::{LeftText, Progress, StepFailure};
 use lint_words::{put_failure, put_place_failure, system_words};
+use manifest::{ManifestFailure, ManifestFault, Misfit};
 use piece_listing::verdict::RunFault;
 use rust_trees::Place;
 use source_report::{CallReading, Report};
@@ -60,20 +61,38 @@ fn plural_ending(number: usize) -> &'static str {
     if number == 1 { "" } else { "s" }
 }
 
-/// Appends the line that says why the file with this path was not replaced. Returns `Err` if an
-/// allocation fails.
+/// Appends the line that says which step of the writing of the file with this path failed, and
+/// where its old text is. Returns `Err` if an allocation fails.
 fn put_step(out: &mut String, path: &str, failure: &StepFailure) -> Result<(), AllocError> {
     let alloc = *out.allocator();
-    let step = failure.step;
-    let reason = match &failure.error {
-        Some(error) => {
-            let words = format!(in alloc; "{error}")?;
-            let text = system_words(words.as_str());
-            format!(in alloc; "not written: {step}: {text}")?
-        }
-        None => format!(in alloc; "not written: {step}")?,
+    let state = match failure.left {
+        LeftText::Old => "not written",
+        LeftText::New => "written, but",
+        LeftText::Part => "not written whole",
     };
+    let step = failure.step;
+    let mut reason = format!(in alloc; "{state}: {step}")?;
+    if let Some(error) = &failure.error {
+        let words = format!(in alloc; "{error}")?;
+        reason.push_str(": ")?;
+        reason.push_str(system_words(words.as_str()))?;
+    }
+    if let Some(old_path) = &failure.old_path {
+        reason.push_str("; its old text is in ")?;
+        reason.push_str(old_path.as_str())?;
+    } else if failure.left == LeftText::Part {
+        reason.push_str("; its old text is lost")?;
+    }
     put_failure(out, path, RunFault::Write, reason.as_str())
+}
+
+/// Returns the words for a key of a manifest whose value is none.
+fn misfit_words(misfit: Misfit) -> &'static str {
+    match misfit {
+        Misfit::Edition => "unknown edition",
+        Misfit::RustVersion => "unknown version of Rust",
+        Misfit::Workspace => "its workspace lacks a value that it refers to",
+    }
 }
 
 /// Writes how many calls there are for each reason, if there is one.
@@ -198,8 +217,8 @@ impl Totals {
         self.fixed_faults = self.fixed_faults.saturating_add(fixes);
     }
 
-    /// Counts a failure, and writes to standard error why the file with this path was not
-    /// replaced.
+    /// Counts a failure, and writes to standard error which step of the writing of the file with
+    /// this path failed.
     pub fn fail_step(&mut self, rt: &HostRuntime, path: &str, failure: &StepFailure) {
         count(&mut self.failures);
         self.progress.clear(rt);
@@ -210,23 +229,41 @@ impl Totals {
         };
     }
 
-    /// Counts a failure, and writes to standard error why the file or folder with this path was not
-    /// read, in the words of the system.
-    pub fn fail(&mut self, rt: &HostRuntime, path: &str, error: &io::Error) {
-        count(&mut self.failures);
+    /// Writes a line about the file or folder with this path to standard error.
+    fn show_words(&mut self, rt: &HostRuntime, path: &str, words: &str) {
         self.progress.clear(rt);
         let mut out = String::new(rt.alloc());
-        let result = match format!(in rt.alloc(); "{error}") {
-            Ok(words) => {
-                let reason = system_words(words.as_str());
-                put_failure(&mut out, path, RunFault::Read, reason)
-            }
-            Err(error) => Err(error),
-        };
-        let _ = match result {
+        let _ = match put_failure(&mut out, path, RunFault::Read, words) {
             Ok(()) => rt.eprint(out.as_str()),
             Err(_) => rt.eprintln("formatlint: out of memory"),
         };
+    }
+
+    /// Counts a failure, and writes to standard error why the file or folder with this path was not
+    /// read, in the words of the system.
+    pub fn fail(&mut self, rt: &HostRuntime, path: &str, error: &io::Error) {
+        match format!(in rt.alloc(); "{error}") {
+            Ok(words) => self.fail_for(rt, path, system_words(words.as_str())),
+            Err(_) => self.fail_for(rt, path, "out of memory"),
+        }
+    }
+
+    /// Counts a failure, and writes to standard error why the file or folder with this path was not
+    /// read.
+    pub fn fail_for(&mut self, rt: &HostRuntime, path: &str, reason: &str) {
+        count(&mut self.failures);
+        self.show_words(rt, path, reason);
+    }
+
+    /// Writes to standard error that a file has the old text of another one. That is no failure.
+    pub fn show_old_text(&mut self, rt: &HostRuntime, path: &str, name: &str) {
+        let words = format!(in rt.alloc();
+            "has the old text of {name}: a run of formatlint is writing that file, or was ended"
+        );
+        match words {
+            Ok(words) => self.show_words(rt, path, words.as_str()),
+            Err(_) => self.show_words(rt, path, "has the old text of a file"),
+        }
     }
 
     /// Counts a failure, and writes to standard error why a file was not read from a place on.
@@ -238,6 +275,18 @@ impl Totals {
             Ok(()) => rt.eprint(out.as_str()),
             Err(_) => rt.eprintln("formatlint: out of memory"),
         };
+    }
+
+    /// Counts a failure, and writes to standard error why a manifest was not understood.
+    pub fn fail_manifest(&mut self, rt: &HostRuntime, failure: &ManifestFailure) {
+        let path = failure.path.as_str();
+        match &failure.fault {
+            ManifestFault::System(error) => self.fail(rt, path, error),
+            ManifestFault::Encoding(place) => self.fail_at(rt, path, *place, "not UTF-8"),
+            ManifestFault::Syntax(place) => self.fail_at(rt, path, *place, "not TOML"),
+            ManifestFault::Length => self.fail_for(rt, path, "longer than 4 MiB"),
+            ManifestFault::Misfit(misfit) => self.fail_for(rt, path, misfit_words(*misfit)),
+        }
     }
 
     /// Returns how many format strings were read.

@@ -1,8 +1,9 @@
 //! The source files below a folder.
 
 use crate::totals::Totals;
+use lint_program::{is_same, name_before, path_of};
 use std::alloc::{AllocError, Global};
-use std::fs::DirEntry;
+use std::fs::{DirEntry, File};
 use std::{fs, io};
 
 /// A file or a folder.
@@ -17,6 +18,10 @@ struct Entry {
 /// left out.
 #[derive(Drop)]
 pub struct Walk<'a> {
+    /// The path of the folder.
+    folder: &'a str,
+    /// Its path from the root on, without links, or `None` if the system does not say it.
+    real_folder: Option<String>,
     /// The files and folders that are still to be read, the next one last.
     rest: Vec<Entry>,
     /// The names of files and folders to leave out.
@@ -33,8 +38,13 @@ fn join(alloc: Global, folder: &str, name: &str) -> Result<String, AllocError> {
     Ok(path)
 }
 
+/// Returns the path that messages and calls give a folder, whose empty path is the current one.
+fn shown_folder(folder: &str) -> &str {
+    if folder.is_empty() { "." } else { folder }
+}
+
 /// Returns whether a folder of this name is left out.
-fn is_left_out(name: &str) -> bool {
+pub fn is_left_out(name: &str) -> bool {
     name.starts_with('.') || name == "target"
 }
 
@@ -42,28 +52,48 @@ impl<'a> Walk<'a> {
     /// Returns the files below a folder. An empty path is that of the current folder. Returns
     /// `Err` if an allocation fails.
     pub fn new(
-        alloc: Global,
-        folder: &str,
+        rt: &HostRuntime,
+        folder: &'a str,
         excluded_names: &'a [&'a str],
     ) -> Result<Walk<'a>, AllocError> {
-        let mut rest = Vec::new(alloc);
+        let mut rest = Vec::new(rt.alloc());
         rest.push(Entry {
-            path: String::from_str(alloc, folder)?,
+            path: String::from_str(rt.alloc(), folder)?,
             is_folder: true,
         })?;
+        let real_folder = match fs::open(rt, shown_folder(folder)) {
+            Ok(file) => path_of(rt, &file).ok(),
+            Err(_) => None,
+        };
         Ok(Walk {
+            folder,
+            real_folder,
             rest,
             excluded_names,
         })
     }
 
-    /// Adds an entry of a folder, if it is to be read.
+    /// Returns whether an open file is the one that lies at a path that `next` returned: no folder
+    /// on the way and not the file itself was replaced by a link meanwhile. Where the system does
+    /// not say the path of an open file, this is known of the file itself alone.
+    pub fn holds(&self, rt: &HostRuntime, path: &str, file: &File) -> io::Result<bool> {
+        let Some(real_folder) = &self.real_folder else {
+            return Ok(is_same(&fs::symlink_metadata(rt, path)?, &file.metadata()?));
+        };
+        let real_path = path_of(rt, file)?;
+        let found = real_path.as_str().strip_prefix(real_folder.as_str());
+        let wanted = path.strip_prefix(self.folder).unwrap_or(path);
+        Ok(found.unwrap_or("").trim_start_matches('/') == wanted.trim_start_matches('/'))
+    }
+
+    /// Adds an entry of a folder, if it is to be read. Says what a file with an old text is.
     fn add(
         &self,
         rt: &HostRuntime,
         folder: &str,
         entry: &DirEntry<HostRuntime>,
         entries: &mut Vec<Entry>,
+        totals: &mut Totals,
     ) -> io::Result<()> {
         let name = entry.file_name();
         if self.excluded_names.contains(&name) {
@@ -76,9 +106,18 @@ impl<'a> Walk<'a> {
         } else {
             kind.is_file() && name.ends_with(".rs")
         };
-        if is_read {
-            let path = join(rt.alloc(), folder, name)?;
-            entries.push(Entry { path, is_folder })?;
+        let old_name = if kind.is_file() {
+            name_before(name)
+        } else {
+            None
+        };
+        if !is_read && old_name.is_none() {
+            return Ok(());
+        }
+        let path = join(rt.alloc(), folder, name)?;
+        match old_name {
+            Some(old_name) => totals.show_old_text(rt, path.as_str(), old_name),
+            None => entries.push(Entry { path, is_folder })?,
         }
         Ok(())
     }
@@ -91,11 +130,11 @@ impl<'a> Walk<'a> {
         folder: &str,
         totals: &mut Totals,
     ) -> io::Result<Vec<Entry>> {
-        let path = if folder.is_empty() { "." } else { folder };
+        let path = shown_folder(folder);
         let mut entries = Vec::new(rt.alloc());
         for entry in fs::read_dir(rt, path)? {
             let result = match entry {
-                Ok(entry) => self.add(rt, folder, &entry, &mut entries),
+                Ok(entry) => self.add(rt, folder, &entry, &mut entries, totals),
                 Err(error) => Err(error),
             };
             if let Err(error) = result {

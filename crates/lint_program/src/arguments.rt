@@ -84,7 +84,13 @@ pub fn width_of(rt: &HostRuntime, matches: &ArgMatches<'_>) -> Option<usize> {
 pub fn form_of(matches: &ArgMatches<'_>, width: usize, colours: bool) -> Form {
     match matches.get_str("message-format").unwrap_or("human") {
         "short" => Form::Short,
-        "json" => Form::Json,
+        "json" => Form::Json {
+            width: if matches.get_str("width").is_some() {
+                width
+            } else {
+                WIDTH
+            },
+        },
         "github" => Form::Github,
         "sarif" => Form::Sarif,
         _ => Form::Human { colours, width },

@@ -1,14 +1,26 @@
-//! Changed files, which are written whole or not at all.
+//! Changed files, which are written in place while their old text stands beside them.
 
-use crate::recorder::Recorder;
-use piece_listing::run::write_whole;
-use std::alloc::AllocError;
-use std::fs::File;
-use std::io::{ErrorKind, Read};
+use crate::open_files::{is_same, real_path};
+use std::fs::{File, Metadata, OpenOptions};
+use std::io::ErrorKind;
+use std::os::unix::fs::{FileExt, OpenOptionsExt};
+use std::random::RandomSource;
 use std::{fs, io};
 
-/// The most names that are tried for a new file.
-const MOST_NAMES: usize = 100;
+/// The words between the name of a file and the number that make the name of the file beside it.
+const MARK: &str = ".formatlint-";
+
+/// The number of digits of that number.
+const DIGITS: usize = 16;
+
+/// The most bytes of a name.
+const MOST_NAME: usize = 255;
+
+/// The number of the system's error that a file system can only be read.
+const READ_ONLY: i32 = 30;
+
+/// The step in which the old text is written beside a file.
+const BESIDE: &str = "its old text in a file beside it";
 
 /// What is done with changed files.
 #[derive(Clone, Copy, PartialEq)]
@@ -21,150 +33,248 @@ pub enum Change {
     Check,
 }
 
-/// A step of the replacement of a file that failed.
+/// The text that a file has after a step failed.
+#[derive(Clone, Copy, PartialEq)]
+pub enum LeftText {
+    /// The old one.
+    Old,
+    /// The new one.
+    New,
+    /// Neither of the two as a whole.
+    Part,
+}
+
+/// A step of the writing of a file that failed.
 #[derive(Drop)]
 pub struct StepFailure {
     /// The step, as messages name it.
     pub step: &'static str,
     /// The error of the system, or `None` if there was none.
     pub error: Option<io::Error>,
+    /// The text that the file has now.
+    pub left: LeftText,
+    /// The path of the file beside it that has the old text, or `None` if there is none.
+    pub old_path: Option<String>,
 }
 
-/// Returns the answer of a step, where a failure has its name.
+/// Returns the failure of a step before the file was written.
+fn failure_of(step: &'static str, error: Option<io::Error>) -> StepFailure {
+    StepFailure {
+        step,
+        error,
+        left: LeftText::Old,
+        old_path: None,
+    }
+}
+
+/// Returns the answer of a step before the file was written, where a failure has its name.
 fn step_result<T: Drop>(step: &'static str, answer: io::Result<T>) -> Result<T, StepFailure> {
     match answer {
         Ok(value) => Ok(value),
-        Err(error) => Err(StepFailure {
-            step,
-            error: Some(error),
-        }),
+        Err(error) => Err(failure_of(step, Some(error))),
     }
 }
 
-/// Returns the path of a new file beside another one. Returns `Err` if an allocation fails.
-fn path_beside(rt: &HostRuntime, path: &str, number: usize) -> Result<String, AllocError> {
-    match path.rsplit_once('/') {
-        Some((folder, name)) => { format!(in rt.alloc(); "{folder}/.{name}.formatlint-{number}") }
-        None => format!(in rt.alloc(); ".{path}.formatlint-{number}"),
-    }
+/// Returns the name of the file, or its start, whose old text is in a file of this name, or `None`
+/// if no run of this program gives such a name.
+pub fn name_before(name: &str) -> Option<&str> {
+    let (front, number) = name.strip_prefix('.')?.rsplit_once(MARK)?;
+    let is_number = number.len() == DIGITS && number.chars().all(|c| c.is_ascii_hexdigit());
+    if is_number { Some(front) } else { None }
 }
 
-/// A new file, and its path.
+/// Returns a path beside another one, which cannot be foretold. A name that would be too long has
+/// only the start of the other name.
+fn path_beside(rt: &HostRuntime, path: &str) -> io::Result<String> {
+    let mut bytes = [0u8; 8];
+    rt.fill_bytes(&mut bytes)?;
+    let mut number = 0u64;
+    for byte in bytes {
+        number = number << 8 | u64::from(byte);
+    }
+    let (folder, name) = path.rsplit_once('/').unwrap_or((".", path));
+    let most = MOST_NAME.saturating_sub(MARK.len() + DIGITS + 1);
+    let front = name.get(..name.floor_char_boundary(most)).unwrap_or("");
+    Ok(format!(in rt.alloc(); "{folder}/.{front}{MARK}{number:016x}")?)
+}
+
+/// Writes the whole text of a file, and waits until it is on the disk.
+fn write_text(file: &File, text: &[u8]) -> io::Result<()> {
+    file.write_all_at(text, 0)?;
+    file.set_len(text.len() as u64)?;
+    file.sync_all()
+}
+
+/// A file that has the old text of another one, beside it.
 #[derive(Drop)]
-struct NewFile {
-    path: String,
+struct OldText {
     file: File,
+    path: String,
 }
 
-/// Makes a new file beside another one, with a name that no file has.
-fn create_beside(rt: &HostRuntime, path: &str) -> io::Result<NewFile> {
-    for number in 0..MOST_NAMES {
-        let new_path = path_beside(rt, path, number)?;
-        match File::create_new(rt, new_path.as_str()) {
-            Ok(file) => return Ok(NewFile {
-                path: new_path,
-                file,
-            }),
-            Err(error) if error.kind() == ErrorKind::AlreadyExists => {}
+impl OldText {
+    /// Writes an old text into a new file beside another one, which only its owner may read.
+    /// Returns `None` if the system lets nobody make a file there, and after an error there is
+    /// none.
+    fn write(rt: &HostRuntime, path: &str, text: &[u8]) -> io::Result<Option<OldText>> {
+        let path = path_beside(rt, path)?;
+        let mut options = OpenOptions::new();
+        options.write(true).create_new(true).mode(0o600);
+        let old_text = match options.open(rt, path.as_str()) {
+            Ok(file) => OldText { file, path },
+            Err(error) if is_refused(&error) => return Ok(None),
             Err(error) => return Err(error),
+        };
+        match old_text.fill(rt, text) {
+            Ok(()) => Ok(Some(old_text)),
+            Err(error) => {
+                let _ = old_text.remove(rt);
+                Err(error)
+            }
         }
     }
-    Err(io::Error::from(ErrorKind::AlreadyExists))
+
+    /// Writes the text, and finds out whether the file lies where it was to be made.
+    fn fill(&self, rt: &HostRuntime, text: &[u8]) -> io::Result<()> {
+        if real_path(rt, &self.file, self.path.as_str())? != self.path {
+            return Err(io::Error::from(ErrorKind::NotFound));
+        }
+        write_text(&self.file, text)
+    }
+
+    /// Removes the file, wherever it lies now, unless another program has removed it.
+    fn remove(&self, rt: &HostRuntime) -> io::Result<()> {
+        let path = real_path(rt, &self.file, self.path.as_str())?;
+        match fs::remove_file(rt, path.as_str()) {
+            Err(error) if error.kind() == ErrorKind::NotFound => Ok(()),
+            answer => answer,
+        }
+    }
 }
 
-/// Writes bytes to a file.
-fn write_bytes(file: File, bytes: &[u8]) -> (Recorder<File>, io::Result<()>) {
-    let mut writer = Recorder::new(file);
-    let answer = match write_whole(&mut writer, bytes) {
-        Ok(()) => Ok(()),
-        Err(_) => Err(match writer.error.take() {
-            Some(error) => error,
-            None => io::Error::from(ErrorKind::WriteZero),
-        }),
-    };
-    (writer, answer)
+/// Returns whether the error says that nobody like this user may make a file in a folder.
+fn is_refused(error: &io::Error) -> bool {
+    error.kind() == ErrorKind::PermissionDenied || error.raw_os_error() == Some(READ_ONLY)
 }
 
-/// Writes a new file with the permissions of an old one, and waits until it is on the disk.
-fn fill(
-    rt: &HostRuntime,
-    file: File,
-    path: &str,
-    new_path: &str,
-    bytes: &[u8],
-) -> Result<(), StepFailure> {
-    let data = step_result("its permissions", fs::metadata(rt, path))?;
-    let permissions = data.permissions();
-    step_result(
-        "its permissions",
-        fs::set_permissions(rt, new_path, permissions),
-    )?;
-    let (writer, answer) = write_bytes(file, bytes);
-    step_result("a new file beside it", answer)?;
-    step_result("a new file beside it", writer.stream.sync_all())
+/// Opens a file once more, to be read and written. It has to be the one that was read.
+fn open_again(rt: &HostRuntime, path: &str, source: &File) -> Result<File, StepFailure> {
+    let data = step_result("opening it", source.metadata())?;
+    if !data.is_file() {
+        return Err(failure_of("it is a pipe or a device", None));
+    }
+    let mut options = OpenOptions::new();
+    options.read(true).write(true);
+    let file = step_result("opening it", options.open(rt, path))?;
+    if !is_same(&data, &step_result("opening it", file.metadata())?) {
+        return Err(failure_of("another program moved it", None));
+    }
+    Ok(file)
 }
 
 /// Returns whether a file has these bytes.
-fn has_bytes(rt: &HostRuntime, path: &str, bytes: &[u8]) -> io::Result<bool> {
-    let mut buffer = Vec::with_capacity(rt.alloc(), bytes.len())?;
-    let limit = (bytes.len() as u64).saturating_add(1);
-    let file = fs::open(rt, path)?;
-    file.take(limit).read_to_end(&mut buffer)?;
+fn has_bytes(rt: &HostRuntime, file: &File, bytes: &[u8]) -> io::Result<bool> {
+    if file.metadata()?.len() != bytes.len() as u64 {
+        return Ok(false);
+    }
+    let mut buffer = vec![in rt.alloc(); 0u8; bytes.len()]?;
+    file.read_exact_at(buffer.as_mut_slice(), 0)?;
     Ok(buffer.as_slice() == bytes)
 }
 
-/// Puts a new file in the place of an old one, if that still has these bytes.
-fn put_in_place(
-    rt: &HostRuntime,
-    path: &str,
-    new_path: &str,
-    old: &[u8],
-) -> Result<(), StepFailure> {
-    if !step_result("reading it again", has_bytes(rt, path, old))? {
-        return Err(StepFailure {
-            step: "another program changed it",
-            error: None,
-        });
+/// Gives a file the permissions again that it had before it was written, if the system took some
+/// away. Returns `Err` if it does not have them then.
+fn keep_permissions(file: &File, data: &Metadata) -> io::Result<()> {
+    if file.metadata()?.permissions() == data.permissions() {
+        return Ok(());
     }
-    step_result(
-        "renaming the new file beside it",
-        fs::rename(rt, new_path, path),
-    )
-}
-
-/// Returns the path of the file that a path leads to, if it may be written, or `None` if that is a
-/// pipe or a device.
-fn target_of(rt: &HostRuntime, path: &str) -> io::Result<Option<String>> {
-    let target = fs::canonicalize(rt, path)?;
-    let data = fs::metadata(rt, target.as_str())?;
-    if !data.is_file() {
-        return Ok(None);
-    }
-    if data.permissions().readonly() {
+    file.set_permissions(data.permissions())?;
+    if file.metadata()?.permissions() != data.permissions() {
         return Err(io::Error::from(ErrorKind::PermissionDenied));
     }
-    let text = String::from_str(rt.alloc(), target.as_str())?;
-    Ok(Some(text))
+    Ok(())
 }
 
-/// Replaces the file that a path leads to, which had old bytes when it was read, by one with new
-/// bytes and its permissions. A failure leaves the old file as it is, and no new one beside it.
-pub fn replace(rt: &HostRuntime, path: &str, old: &[u8], new: &[u8]) -> Result<(), StepFailure> {
-    let Some(target) = step_result("opening it", target_of(rt, path))? else {
-        return Err(StepFailure {
-            step: "it is a pipe or a device",
-            error: None,
-        });
+/// Removes the file with an old text. If that fails, `failure` says where the file is.
+fn discard(
+    rt: &HostRuntime,
+    old_text: Option<OldText>,
+    failure: &mut StepFailure,
+) -> io::Result<()> {
+    let Some(old_text) = old_text else {
+        return Ok(());
     };
-    let new_file = create_beside(rt, target.as_str());
-    let NewFile { path, file } = step_result("a new file beside it", new_file)?;
-    let (from, to) = (path.as_str(), target.as_str());
-    let answer = match fill(rt, file, to, from, new) {
-        Ok(()) => put_in_place(rt, to, from, old),
-        Err(failure) => Err(failure),
-    };
+    let answer = old_text.remove(rt);
     if answer.is_err() {
-        let _ = fs::remove_file(rt, from);
+        failure.old_path = Some(old_text.path);
     }
     answer
+}
+
+/// Puts the old text back into a file, after an error in writing the new one.
+fn put_back(
+    rt: &HostRuntime,
+    file: &File,
+    old: &[u8],
+    old_text: Option<OldText>,
+    error: io::Error,
+) -> StepFailure {
+    let mut failure = failure_of("writing it", Some(error));
+    if write_text(file, old).is_ok() {
+        let _ = discard(rt, old_text, &mut failure);
+    } else {
+        failure.left = LeftText::Part;
+        if let Some(old_text) = old_text {
+            failure.old_path = Some(old_text.path);
+        }
+    }
+    failure
+}
+
+/// Restores the permissions of a written file, which had this data, and removes the file with its
+/// old text.
+fn finish(
+    rt: &HostRuntime,
+    file: &File,
+    data: &Metadata,
+    old_text: Option<OldText>,
+) -> Result<(), StepFailure> {
+    let mut failure = failure_of("its permissions", keep_permissions(file, data).err());
+    failure.left = LeftText::New;
+    if let Err(error) = discard(rt, old_text, &mut failure) {
+        failure.step = "removing the file beside it";
+        failure.error = Some(error);
+    }
+    if failure.error.is_some() {
+        Err(failure)
+    } else {
+        Ok(())
+    }
+}
+
+/// Writes new bytes to the file that a path leads to. `source` is the open file from which the old
+/// bytes were read. The failure says which text the file has then.
+pub fn replace(
+    rt: &HostRuntime,
+    path: &str,
+    source: &File,
+    old: &[u8],
+    new: &[u8],
+) -> Result<(), StepFailure> {
+    let file = open_again(rt, path, source)?;
+    let data = step_result("its permissions", file.metadata())?;
+    let real_path = step_result(BESIDE, real_path(rt, &file, path))?;
+    let old_text = step_result(BESIDE, OldText::write(rt, real_path.as_str(), old))?;
+    let mut failure = match has_bytes(rt, &file, old) {
+        Ok(true) => {
+            return match write_text(&file, new) {
+                Ok(()) => finish(rt, &file, &data, old_text),
+                Err(error) => Err(put_back(rt, &file, old, old_text, error)),
+            };
+        }
+        Ok(false) => failure_of("another program changed it", None),
+        Err(error) => failure_of("reading it again", Some(error)),
+    };
+    let _ = discard(rt, old_text, &mut failure);
+    Err(failure)
 }

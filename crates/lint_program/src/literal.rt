@@ -3,8 +3,9 @@
 use crate::arguments::{file_of, has_colours, list_words, task_of, width_of};
 use crate::failure::Failure;
 use crate::recorder::Recorder;
+use crate::terminal::shown_bytes;
 use clap::ArgMatches;
-use drawn_lines::{WIDTH, put_glyphs};
+use drawn_lines::WIDTH;
 use format_lint::run::run;
 use lint_words::{put_failure, put_not_literal, system_words};
 use listing_json::{Listing, list};
@@ -102,8 +103,13 @@ fn listing_of(alloc: Global, matches: &ArgMatches<'_>, input: &[u8]) -> Result<L
     })
 }
 
-/// Writes the listing of an input. On a terminal its characters are those of a drawing, so that the
-/// terminal obeys none. Returns 1 if a line is not of a piece.
+/// Writes bytes to standard output, on a terminal as drawings have them.
+fn write_shown<W: Write>(rt: &HostRuntime, writer: &mut W, bytes: &[u8]) -> Result<(), RunFault> {
+    let mut drawing = String::new(rt.alloc());
+    write_whole(writer, shown_bytes(rt, bytes, &mut drawing)?)
+}
+
+/// Writes the listing of an input. Returns 1 if a line is not of a piece.
 fn answer_listing<W: Write>(
     rt: &HostRuntime,
     writer: &mut W,
@@ -111,15 +117,30 @@ fn answer_listing<W: Write>(
     input: &[u8],
 ) -> Result<usize, RunFault> {
     let listing = listing_of(rt.alloc(), matches, input)?;
-    match str::from_utf8(listing.bytes.as_slice()) {
-        Ok(text) if rt.stdout().is_terminal() => {
-            let mut drawing = String::new(rt.alloc());
-            put_glyphs(&mut drawing, text, 0)?;
-            write_whole(writer, drawing.as_bytes())?;
-        }
-        _ => write_whole(writer, listing.bytes.as_slice())?,
-    }
+    write_shown(rt, writer, listing.bytes.as_slice())?;
     Ok(usize::from(listing.has_ends))
+}
+
+/// Writes the answer for an input that is not listed. Returns how many mistakes are left.
+fn answer_task<W: Write, E: Write>(
+    rt: &HostRuntime,
+    writer: &mut W,
+    error_writer: &mut E,
+    matches: &ArgMatches<'_>,
+    path: &str,
+    input: &[u8],
+) -> Result<usize, RunFault> {
+    let width = width_of(rt, matches).unwrap_or(WIDTH);
+    let task = task_of(matches, path, width, has_colours(rt, matches));
+    let mut reader = input;
+    if !matches.get_flag("fix") || !rt.stdout().is_terminal() {
+        return run(rt.alloc(), &mut reader, writer, error_writer, task);
+    }
+    // (only of a literal has the output characters as the input has them)
+    let mut literal = Vec::new(rt.alloc());
+    let count = run(rt.alloc(), &mut reader, &mut literal, error_writer, task)?;
+    write_shown(rt, writer, literal.as_slice())?;
+    Ok(count)
 }
 
 /// Writes the answer for an input. Returns how many mistakes are left, and of a list 1 if a line is
@@ -130,16 +151,12 @@ fn answer(
     path: &str,
     input: &[u8],
 ) -> Result<usize, Failure> {
-    let alloc = rt.alloc();
     let mut writer = Recorder::new(rt.stdout());
     let mut error_writer = Recorder::new(rt.stderr());
     let result = if matches.get_flag("list") {
         answer_listing(rt, &mut writer, matches, input)
     } else {
-        let width = width_of(rt, matches).unwrap_or(WIDTH);
-        let task = task_of(matches, path, width, has_colours(rt, matches));
-        let mut reader = input;
-        run(alloc, &mut reader, &mut writer, &mut error_writer, task)
+        answer_task(rt, &mut writer, &mut error_writer, matches, path, input)
     };
     match result {
         Ok(count) => Ok(count),

@@ -1,6 +1,6 @@
-//! A stream that keeps the error of a call that fails.
+//! A stream that keeps the error of a call that fails, and goes on after one that is interrupted.
 
-use std::io::{Error, Read, Result, Write};
+use std::io::{Error, ErrorKind, Read, Result, Write};
 
 /// A stream with the last error that it returned.
 #[derive(Drop)]
@@ -30,19 +30,27 @@ impl<S: Drop> Recorder<S> {
 
 impl<R: Read + Drop> Read for Recorder<R> {
     fn read(&mut self, buf: &mut [u8]) -> Result<usize> {
-        match self.stream.read(buf) {
-            Ok(count) => Ok(count),
-            Err(error) => Err(self.keep(error)),
+        for _ in 0..u64::MAX {
+            match self.stream.read(buf) {
+                Ok(count) => return Ok(count),
+                Err(error) if error.kind() == ErrorKind::Interrupted => {}
+                Err(error) => return Err(self.keep(error)),
+            }
         }
+        Err(Error::from(ErrorKind::Interrupted))
     }
 }
 
 impl<W: Write + Drop> Write for Recorder<W> {
     fn write(&mut self, buf: &[u8]) -> Result<usize> {
-        match self.stream.write(buf) {
-            Ok(count) => Ok(count),
-            Err(error) => Err(self.keep(error)),
+        for _ in 0..u64::MAX {
+            match self.stream.write(buf) {
+                Ok(count) => return Ok(count),
+                Err(error) if error.kind() == ErrorKind::Interrupted => {}
+                Err(error) => return Err(self.keep(error)),
+            }
         }
+        Err(Error::from(ErrorKind::Interrupted))
     }
 
     fn flush(&mut self) -> Result<()> {

@@ -1,10 +1,10 @@
 -- The lines that `formatlint` writes to standard error where it has no answer. They begin with its
--- name and the path of the input. A path is written as drawings have it, with nothing that a
--- terminal obeys.
+-- name and the path of the input.
 use Rattle.std.specs.Prelude.{◌++◌, ℕ, List, codes, decimal}
 use Rattle.std.specs.Prelude.{chars}
 use Rattle.std.specs.Prelude.{take, drop, length, ◌==◌, if◌then◌else◌}
-use Rattle.drawn_lines.specs.Glyphs.{glyph_bytes}
+use Rattle.shown_text.specs.Shown.{shown}
+use Rattle.shown_text.specs.declared.gate.Kind.TheVariants.{Line}
 use Rattle.piece_listing.specs.declared.verdict.RunFault.{RunFault}
 use Rattle.piece_listing.specs.declared.verdict.RunFault.TheVariants.{Words, Read, TooLong, NotText}
 use Rattle.piece_listing.specs.declared.verdict.RunFault.TheVariants.{NotLiteral, Memory, Write}
@@ -15,7 +15,7 @@ use Rattle.literal_faults.specs.Words.{message}
 
 -- The start of each line: the name of the program and the path.
 abbrev pub opening : List ℕ → List ℕ
-opening path = codes "formatlint: " ++ (glyph_bytes path ++ codes ":")
+opening path = codes "formatlint: " ++ (shown Line path ++ codes ":")
 
 -- The reason why there is no answer. For a read or a write that failed these are the words of the
 -- system, if it has any.
@@ -30,7 +30,7 @@ reason Memory why = codes "out of memory"
 
 -- The line where there is no answer.
 abbrev pub failure : List ℕ → RunFault → List ℕ → List ℕ
-failure path f why = opening path ++ (codes " " ++ (reason f why ++ codes "\n"))
+failure path f why = opening path ++ (codes " " ++ (shown Line (reason f why) ++ codes "\n"))
 
 -- The place as editors have it: the line, a colon and the column.
 abbrev pub place_text : Place → List ℕ
@@ -47,4 +47,4 @@ not_literal path file f = opening path ++ (place_text (place file f.offset) ++ (
 
 -- The line where a file is not read from a place on.
 abbrev pub place_failure : List ℕ → Place → List ℕ → List ℕ
-place_failure path p why = opening path ++ (place_text p ++ (codes ": " ++ (why ++ codes "\n")))
+place_failure path p why = opening path ++ (place_text p ++ (codes ": " ++ (shown Line why ++ codes "\n")))

@@ -3,12 +3,13 @@
 ghost use Rattle.std.specs.Prelude.{◌≡◌, ◌++◌, IsCharBoundary, OnOk, decimal, string_bytes};
 ghost use Rattle.lint_words.specs.Messages.{failure, not_literal, opening, place_failure, reason};
 ghost use Rattle.lint_words.specs.Messages.{place_text};
+ghost use Rattle.shown_text.specs.Shown.{IsLine};
 
-use drawn_lines::put_glyphs;
 use itoa::Buffer;
 use literal_faults::LiteralFault;
 use piece_listing::verdict::RunFault;
 use rust_trees::{Place, place_at};
+use shown_text::{Kind, put_shown};
 use std::alloc::AllocError;
 
 /// Returns the words of the system in the text of an error of reading or writing, without the
@@ -26,7 +27,7 @@ fn put_opening(out: &mut String, path: &str) -> Result<(), AllocError>
     ensures { OnOk result (string_bytes out.new ≡ string_bytes out.old ++ opening path.now) }
 {
     out.push_str("formatlint: ")?;
-    put_glyphs(out, path, 0)?;
+    put_shown(out, Kind::Line, path)?;
     out.push_str(":")?;
     Ok(())
 }
@@ -51,18 +52,20 @@ fn reason<'a>(fault: RunFault, words: &'a str) -> &'a str
 /// Appends the line that says why there is no answer for the input with this path. For a read or a
 /// write that failed `words` has the words of the system, if it has any. Returns `Err` if an
 /// allocation fails, and a part of the line may then be appended.
+#[tactic(auto, using(crate::proofs::Lines::one_line))]
 pub fn put_failure(
     out: &mut String,
     path: &str,
     fault: RunFault,
     words: &str,
 ) -> Result<(), AllocError>
-    ensures { OnOk result (string_bytes out.new
+    ensures written { OnOk result (string_bytes out.new
         ≡ string_bytes out.old ++ failure path.now fault words.now) }
+    ensures line { IsLine (failure path.now fault words.now) }
 {
     put_opening(out, path)?;
     out.push_str(" ")?;
-    out.push_str(reason(fault, words))?;
+    put_shown(out, Kind::Line, reason(fault, words))?;
     out.push_str("\n")?;
     Ok(())
 }
@@ -109,19 +112,21 @@ pub fn put_not_literal(
 
 /// Appends the line that says why the file with this path is not read from a place on. Returns
 /// `Err` if an allocation fails, and a part of the line may then be appended.
+#[tactic(auto, using(crate::proofs::Lines::one_line))]
 pub fn put_place_failure(
     out: &mut String,
     path: &str,
     place: Place,
     words: &str,
 ) -> Result<(), AllocError>
-    ensures { OnOk result (string_bytes out.new
+    ensures written { OnOk result (string_bytes out.new
         ≡ string_bytes out.old ++ place_failure path.now place words.now) }
+    ensures line { IsLine (place_failure path.now place words.now) }
 {
     put_opening(out, path)?;
     put_place(out, place)?;
     out.push_str(": ")?;
-    out.push_str(words)?;
+    put_shown(out, Kind::Line, words)?;
     out.push_str("\n")?;
     Ok(())
 }

@@ -1,4 +1,3 @@
-pub mod Escaped
 pub mod Texts
 pub mod Lines
 pub mod Harmless

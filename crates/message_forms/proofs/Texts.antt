@@ -4,7 +4,7 @@ use Rattle.std.proofs.Common.{append_assoc, drop, get_or, length}
 use Rattle.std.proofs.lemmas.List.{drop_more}
 use Rattle.std.proofs.Math.Seq.{drop-length}
 use Rattle.std.specs.Prelude.{false, true, codes}
-use Rattle.json.specs.Print.{quoted}
+use Rattle.message_forms.specs.Escapes.{quoted}
 use Rattle.serde_json.specs.Data.{Data, array, object, Items, no_items, item, Members}
 use Rattle.serde_json.specs.Data.{no_members, member}
 use Rattle.serde_json.specs.Written.{comma_if}

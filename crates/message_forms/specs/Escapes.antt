@@ -1,33 +1,13 @@
--- Texts as the forms have them. Strings of JSON are those of the crate `json`: RFC 8259, section 7.
-use Rattle.std.specs.Prelude.{ℕ, ◌+◌, ◌/◌, ◌%◌, Bool, ◌&&◌, ◌||◌, ◌==◌, nat_lt, List, [], ◌∷◌, ◌++◌}
-use Rattle.std.specs.Prelude.{chars, codes, flat_map, if◌then◌else◌}
-use Rattle.std.specs.Char.{digit_char}
+-- Texts as the forms have them.
+use Rattle.std.specs.Prelude.{ℕ, ◌+◌, ◌/◌, ◌%◌, Bool, ◌||◌, ◌==◌, nat_lt, List, [], ◌∷◌, ◌++◌}
+use Rattle.std.specs.Prelude.{codes, flat_map, if◌then◌else◌}
 use Rattle.std.specs.Int.{is_in_range}
-use Rattle.std.specs.Str.{encode_utf8_all}
-use Rattle.json.specs.Print.{escape_letter}
+use Rattle.shown_text.specs.Shown.{shown}
+use Rattle.shown_text.specs.declared.gate.Kind.TheVariants.{Json}
 
--- The escape of a control character of ASCII in a string of JSON that has no shorter one.
-abbrev pub code_text : ℕ → List ℕ
-code_text c = codes "\\u00" ++ (digit_char (c / 16) ∷ digit_char (c % 16) ∷ [])
-
--- A byte of ASCII as a string of JSON has it.
-abbrev pub byte_text : ℕ → List ℕ
-byte_text b = if nat_lt 0 (escape_letter b) then 92 ∷ escape_letter b ∷ []
-    else if nat_lt b 32 then code_text b else b ∷ []
-
--- A character as a workflow command of GitHub has it: in a property, or after the properties.
-abbrev pub command_char : Bool → ℕ → List ℕ
-command_char is_property c =
-    if c == 37 then codes "%25"
-    else if c == 13 then codes "%0D"
-    else if c == 10 then codes "%0A"
-    else if is_property && c == 58 then codes "%3A"
-    else if is_property && c == 44 then codes "%2C"
-    else c ∷ []
-
--- A text in a workflow command.
-abbrev pub command_text : Bool → List ℕ → List ℕ
-command_text is_property bs = encode_utf8_all (flat_map (command_char is_property) (chars bs))
+-- A text as a string of JSON.
+abbrev pub quoted : List ℕ → List ℕ
+quoted t = 34 ∷ (shown Json t ++ 34 ∷ [])
 
 -- A byte that stands for itself in a path of a URI: one of RFC 3986's `unreserved`, or a slash.
 abbrev pub stays_in_uri : ℕ → Bool

@@ -39,10 +39,15 @@ line_items (suc n) from to bs = item
     (line_json (first_line bs) from (length (chars (first_line bs)) + 1))
     (line_items n 1 to (after_first is_lf bs))
 
--- The lines of a span.
+-- The same of lines that may not be shown.
+abbrev pub shown_items : Option (List ℕ) → ℕ → ℕ → ℕ → Items
+shown_items None n from to = no_items
+shown_items (Some bs) n from to = line_items n from to bs
+
+-- The lines of a span, or none if they are not shown.
 abbrev pub lines_json : Span → Data
-lines_json s = array (line_items (s.end.line - s.start.line) s.start.column s.end.column
-    s.lines.now)
+lines_json s = array (shown_items (option_map (λ t. t.now) s.lines) (s.end.line - s.start.line)
+    s.start.column s.end.column)
 
 -- The places of a span, before other members.
 abbrev pub place_members : List ℕ → Span → Members → Members

@@ -7,9 +7,11 @@ ghost use Rattle.std.specs.List.{after_first};
 ghost use Rattle.serde_json.specs.Data.{Members, array, no_items};
 ghost use Rattle.message_forms.specs.Json.{applicability_json, below_members, child_json};
 ghost use Rattle.message_forms.specs.Json.{code_json, first_line, is_lf, line_items, line_json};
+ghost use Rattle.message_forms.specs.Json.{lines_json};
 ghost use Rattle.message_forms.specs.Json.{message_json, place_members, without_cr};
 ghost use Rattle.message_forms.specs.Json.{detail_members, span_json};
 ghost use Rattle.message_forms.specs.Texts.{items_of, json_text, object_text, text_or_null};
+ghost use Rattle.shown_text.specs.Shown.{IsLine};
 
 use crate::members::{
     put_comma, put_count, put_end, put_key, put_text, put_text_or_null, put_truth,
@@ -88,6 +90,29 @@ fn put_lines(
     Ok(())
 }
 
+/// Adds an array without items.
+#[tactic(auto, unfolding(crate::specs::Texts::json_text))]
+fn put_empty_array(out: &mut String) -> Result<(), AllocError>
+    ensures { OnOk result (string_bytes out.new
+        ≡ string_bytes out.old ++ json_text (array no_items)) }
+{
+    out.push_str("[]")?;
+    Ok(())
+}
+
+/// Adds the lines of a span, or no line if they are not shown.
+fn put_span_lines(out: &mut String, span: &Span<'_>) -> Result<(), AllocError>
+    ensures { OnOk result (string_bytes out.new
+        ≡ string_bytes out.old ++ json_text (lines_json span.now)) }
+{
+    let Some(lines) = span.lines else {
+        return Ok(put_empty_array(out)?);
+    };
+    let line_count = span.end.line.saturating_sub(span.start.line);
+    put_lines(out, lines, span.start.column, span.end.column, line_count)?;
+    Ok(())
+}
+
 /// Adds the members that say where a span is.
 fn put_places(out: &mut String, path: &str, span: &Span<'_>) -> Result<(), AllocError>
     ensures { OnOk result ((ms : Members) → string_bytes out.new ++ object_text true ms
@@ -131,14 +156,7 @@ fn put_details(out: &mut String, span: &Span<'_>) -> Result<(), AllocError>
 {
     put_truth(out, true, "is_primary", span.is_primary)?;
     put_key(out, true, "text")?;
-    let line_count = span.end.line.saturating_sub(span.start.line);
-    put_lines(
-        out,
-        span.lines,
-        span.start.column,
-        span.end.column,
-        line_count,
-    )?;
+    put_span_lines(out, span)?;
     put_text_or_null(out, "label", span.label)?;
     let text = replacement(&span.suggestion);
     put_text_or_null(out, "suggested_replacement", text)?;
@@ -172,16 +190,6 @@ fn put_spans(out: &mut String, path: &str, spans: &[Span<'_>]) -> Result<(), All
         is_later = true;
     }
     out.push_str("]")?;
-    Ok(())
-}
-
-/// Adds an array without items.
-#[tactic(auto, unfolding(crate::specs::Texts::json_text))]
-fn put_empty_array(out: &mut String) -> Result<(), AllocError>
-    ensures { OnOk result (string_bytes out.new
-        ≡ string_bytes out.old ++ json_text (array no_items)) }
-{
-    out.push_str("[]")?;
     Ok(())
 }
 
@@ -253,6 +261,7 @@ fn put_below(
 /// `--error-format=json`: its ranges, its notes and helps, and its drawing for people. Its id
 /// stands in the place of rustc's code. Returns `Err` if an allocation fails, and a part of the
 /// line may then be appended.
+#[tactic(auto, using(crate::proofs::Harmless::one_line))]
 pub fn put_json(
     out: &mut String,
     message: &Message<'_>,
@@ -260,8 +269,10 @@ pub fn put_json(
     children: &[Child<'_, '_>],
     rendered: &str,
 ) -> Result<(), AllocError>
-    ensures { OnOk result (string_bytes out.new ≡ string_bytes out.old ++ (json_text
+    ensures written { OnOk result (string_bytes out.new ≡ string_bytes out.old ++ (json_text
         (message_json message.now spans.now children.now rendered.now) ++ codes "\n")) }
+    ensures line { IsLine (json_text
+        (message_json message.now spans.now children.now rendered.now) ++ codes "\n") }
 {
     put_text(out, false, "$message_type", "diagnostic")?;
     put_text(out, true, "message", message.title)?;

@@ -35,8 +35,8 @@ pub struct Span<'a> {
     /// The place at which it ends.
     pub end: Place,
     /// The lines of the file that the range is in, from the start of the first one to the end of
-    /// the last one, without the line end there.
-    pub lines: &'a str,
+    /// the last one, without the line end there, or `None` if they are not shown.
+    pub lines: Option<&'a str>,
     /// Whether the message is about this range.
     pub is_primary: bool,
     /// The label of the range, or `None`.

@@ -2,10 +2,13 @@
 -- the compiler's own suggestion, which it calls applicable by a machine. Two of these are left out:
 -- an argument that can be removed, since a comma stays, and `dbg!` in the place of another macro.
 use Rattle.std.specs.Prelude.{ℕ, Bool, true, false, not, ◌++◌, ◌&&◌, ◌||◌, if◌then◌else◌, List, []}
-use Rattle.std.specs.Prelude.{◌∷◌, Option, Some, None, codes, map, nat_le, option_map}
-use Rattle.std.specs.Prelude.{string_bytes}
-use Rattle.std.specs.List.{filter_map}
-use Rattle.std.specs.Str.{bytes_eq}
+use Prim.Native.Char.{code}
+use Rattle.std.specs.Prelude.{◌∷◌, ◌==◌, Option, Some, None, chars, codes, map, nat_le, nat_lt}
+use Rattle.std.specs.Prelude.{option_map, string_bytes}
+use Rattle.std.specs.Char.{is_whitespace}
+use Rattle.std.specs.List.{after_first, before_first, filter_map, list_all}
+use Rattle.std.specs.Str.{bytes_eq, trim}
+use Rattle.call_forms.specs.Keywords.{kind_word}
 use Rattle.rustc_parse_format.specs.Views.{pair}
 use Rattle.fault_fixes.specs.Edits.{Edit, is_empty}
 use Rattle.source_report.specs.declared.report.Edit.{Edit as DeclaredEdit}
@@ -47,6 +50,33 @@ is_applicable w = bytes_eq w (codes "raw-identifier") || bytes_eq w (codes "miss
     || bytes_eq w (codes "flag-after-type") || bytes_eq w (codes "field-access")
     || bytes_eq w (codes "tuple-index")
 
+-- A character of a format string is the same in source outside of a literal: it begins no escape,
+-- and is no white space outside of ASCII.
+abbrev pub is_plain : ℕ → Bool
+is_plain c = not (c == code "\\") && (nat_lt c 128 || not (is_whitespace c))
+
+-- The word is a keyword in no edition.
+abbrev pub is_name : List ℕ → Bool
+is_name w = bytes_eq (kind_word w) [] && not (bytes_eq w (codes "gen"))
+
+-- The field of a variable, by these names, is an expression: none is a keyword, but for `self` in
+-- front.
+abbrev pub is_field : List ℕ → List ℕ → Bool
+is_field name field = (bytes_eq name (codes "self") || is_name name) && is_name field
+
+-- The new text of an edit is source of Rust, as far as it is moved out of a literal: it is
+-- `, NAME.FIELD` without an escape, and without a keyword but `self` in front.
+abbrev pub is_movable : List ℕ → Bool
+is_movable bs =
+    let moved = after_first (λ b. b == code ",") bs in
+    list_all is_plain (chars bs) && is_field (trim (before_first (λ b. b == code ".") moved))
+    (trim (after_first (λ b. b == code ".") moved))
+
+-- So is that of each edit of a help.
+unfoldable pub is_movable_help : Option Help → Bool
+is_movable_help None = true
+is_movable_help (Some h) = list_all (λ e. is_movable (string_bytes e.text)) h.edits.items
+
 -- The edit of a label, if it is a suggestion.
 abbrev pub label_edit : Label → Option Edit
 label_edit l = option_map (λ s. record { span = pair l.range; text = s.text })
@@ -61,9 +91,10 @@ abbrev pub help_edits : Option Help → List Edit
 help_edits None = []
 help_edits (Some h) = map help_edit h.edits.items
 
--- The edits that mend a fault, or none if it has no suggestion to apply.
+-- The edits that mend a fault, or none if it has no suggestion to apply, or one that would put text
+-- into the source that is no expression.
 abbrev pub edits_of : Finding → List Edit
-edits_of x = if is_applicable x.id.now
+edits_of x = if is_applicable x.id.now && is_movable_help x.help
     then filter_map label_edit x.labels.items ++ help_edits x.help else []
 
 -- Each edit starts where the one before it ends or later, the first one at the byte offset `at` or

@@ -1,14 +1,18 @@
 //! The edits that mend a fault.
 
-ghost use Rattle.std.specs.Prelude.{◌≡◌, IfOk, OnOk, ◌++◌, map, option_map};
-ghost use Rattle.std.specs.List.{filter_map};
+ghost use Rattle.std.specs.Prelude.{◌≡◌, ◌<◌, ◌==◌, IfOk, OnOk, ◌++◌, chars, map, option_map};
+ghost use Rattle.std.specs.List.{after_first, before_first, filter_map, list_all};
 ghost use Rattle.fault_fixes.specs.SeenEdits.{seen_edit};
 ghost use Rattle.source_report.specs.Suggestions.{are_after, edits_of, help_edits, is_applicable};
+ghost use Rattle.source_report.specs.Suggestions.{is_field, is_movable, is_movable_help, is_name};
+ghost use Rattle.source_report.specs.Suggestions.{is_plain};
 ghost use Rattle.source_report.specs.Suggestions.{label_edit, suggestion_of};
 ghost use Rattle.source_report.specs.EditViews.{seen_suggestion};
 
 use crate::report::{Finding, Help, Label};
+use call_forms::kind_word;
 use fault_fixes::Edit;
+use rust_tokens::split_first;
 use std::alloc::{AllocError, Global};
 
 /// A suggestion that is drawn as a label.
@@ -76,6 +80,92 @@ pub fn is_applicable(id: &str) -> bool
         || id == "tuple-index"
 }
 
+/// Returns whether a character of a format string is the same in source outside of a literal: it
+/// begins no escape, and is no white space outside of ASCII.
+fn is_plain(c: char) -> bool
+    ensures { result ≡ is_plain c }
+{
+    c != '\\' && (c.is_ascii() || !c.is_whitespace())
+}
+
+/// Returns whether all characters of a text are plain.
+fn are_plain(text: &str) -> bool
+    ensures { result ≡ list_all is_plain (chars text.now) }
+{
+    let mut rest = text;
+    while let Some((c, more)) = split_first(rest) {
+        if !is_plain(c) {
+            return false;
+        }
+        rest = more;
+    }
+    true
+}
+
+/// Returns the part of a text before the first `mark`, or all of it if there is none.
+fn before_mark(text: &str, mark: char) -> &str
+    requires { mark < 128 }
+    ensures { result.now ≡ before_first (λ b. b == mark) text.now }
+{
+    match text.split_once(mark) {
+        Some((front, _)) => front,
+        None => text,
+    }
+}
+
+/// Returns the part of a text after the first `mark`, or nothing if there is none.
+fn after_mark(text: &str, mark: char) -> &str
+    requires { mark < 128 }
+    ensures { result.now ≡ after_first (λ b. b == mark) text.now }
+{
+    match text.split_once(mark) {
+        Some((_, rest)) => rest,
+        None => "",
+    }
+}
+
+/// Returns whether a word is a keyword in no edition.
+fn is_name(word: &str) -> bool
+    ensures { result ≡ is_name word.now }
+{
+    kind_word(word) == "" && word != "gen"
+}
+
+/// Returns whether the field of a variable, by these names, is an expression: none is a keyword,
+/// but for `self` in front.
+fn is_field(name: &str, field: &str) -> bool
+    ensures { result ≡ is_field name.now field.now }
+{
+    (name == "self" || is_name(name)) && is_name(field)
+}
+
+/// Returns whether the new text of an edit is source of Rust, as far as it is moved out of a
+/// literal: it is `, NAME.FIELD` without an escape, and without a keyword but `self` in front.
+fn is_movable(text: &str) -> bool
+    ensures { result ≡ is_movable text.now }
+{
+    let moved = after_mark(text, ',');
+    let name = before_mark(moved, '.').trim();
+    let field = after_mark(moved, '.').trim();
+    are_plain(text) && is_field(name, field)
+}
+
+/// Returns whether the new text of each edit of a help is source of Rust.
+#[tactic(auto, unfolding(crate::specs::Suggestions::is_movable_help))]
+fn is_movable_help(help: &Option<Help>) -> bool
+    ensures { result ≡ is_movable_help help.now }
+{
+    let Some(help) = help else {
+        return true;
+    };
+    for edit in help.edits.as_slice() {
+        if !is_movable(edit.text.as_str()) {
+            return false;
+        }
+    }
+    true
+}
+
 /// Adds the edits of labels. Returns `Err` if an allocation fails.
 fn add_label_edits<'f>(edits: &mut Vec<Edit<'f>>, labels: &'f [Label]) -> Result<(), AllocError>
     ensures { OnOk result (map seen_edit edits.new.items
@@ -109,13 +199,13 @@ fn add_help_edits<'f>(edits: &mut Vec<Edit<'f>>, help: &'f Option<Help>) -> Resu
     Ok(())
 }
 
-/// Returns the edits that mend a fault, or none if it has no suggestion to apply. Returns `Err` if
-/// an allocation fails.
+/// Returns the edits that mend a fault, or none if it has no suggestion to apply, or one that would
+/// put text into the source that is no expression. Returns `Err` if an allocation fails.
 pub fn edits_of<'f>(alloc: Global, finding: &'f Finding) -> Result<Vec<Edit<'f>>, AllocError>
     ensures { IfOk result (λ v. map seen_edit v.items ≡ edits_of finding.now) }
 {
     let mut edits = Vec::new(alloc);
-    if is_applicable(finding.id) {
+    if is_applicable(finding.id) && is_movable_help(&finding.help) {
         add_label_edits(&mut edits, finding.labels.as_slice())?;
         add_help_edits(&mut edits, &finding.help)?;
     }

@@ -1,6 +1,6 @@
 //! The call of `dephungo.h` over the crate for Rust, for hosts on which the proved library does not
-//! run: `cargo build --release` makes `libdephungo_c.a`. It writes the same records, and never returns
-//! `NO_MEMORY`: a failed allocation aborts. All that is unsafe is in this file.
+//! run: `cargo build --release` makes `libdephungo_c.a` and a shared library. It writes the same records,
+//! and never returns `NO_MEMORY`: a failed allocation aborts. All that is unsafe is in this file.
 #![deny(unsafe_op_in_unsafe_fn)]
 #[path = "../../../../crates/flat_reading/src/records.rt"]
 #[allow(dead_code)]
@@ -12,9 +12,14 @@ use dephungo::{ArgumentIs, ArgumentNamed, Count, CountImplied, CountIs, CountIsN
 use dephungo::{CountIsStar, DebugHex, FormatSpec, ParseError, ParseMode, Parser, Piece, Sign};
 use dephungo::Suggestion;
 use records::*;
+use std::ffi::CStr;
+use std::mem::size_of;
 use std::ops::Range;
+use std::os::raw::c_char;
 
 const NOWHERE: Extent = Extent { start: 0, end: 0 };
+/// The version, as `DEPHUNGO_VERSION` of the header, with a zero at its end.
+const VERSION: &str = "0.3.0\0";
 /// The most bytes of an input, and the most hashes of a raw literal.
 const LIMIT: u64 = 1_000_000_000_000;
 
@@ -329,12 +334,65 @@ pub struct Rooms {
     pub peek_room: usize,
 }
 
+/// Returns so many records or bytes of the caller's; none if the pointer is null.
+///
+/// # Safety
+///
+/// A pointer that is not null points to so many, and nothing writes them while the result is used.
+unsafe fn given<'a, T>(start: *const T, count: usize) -> &'a [T] {
+    if start.is_null() {
+        return &[];
+    }
+    // SAFETY: the caller promises it.
+    unsafe { std::slice::from_raw_parts(start, count) }
+}
+
+/// Returns a buffer of the caller's; an empty one if the pointer is null.
+///
+/// # Safety
+///
+/// A pointer that is not null points to so many records, and nothing else uses them.
+unsafe fn room<'a, T>(start: *mut T, count: usize) -> &'a mut [T] {
+    if start.is_null() {
+        return &mut [];
+    }
+    // SAFETY: the caller promises it.
+    unsafe { std::slice::from_raw_parts_mut(start, count) }
+}
+
+/// Returns the version of this library as a string of C.
+#[no_mangle]
+pub extern "C" fn dephungo_version() -> *const c_char {
+    VERSION.as_ptr().cast()
+}
+
+/// Returns how many bytes the record of this name has here, such as `dephungo_step`, or 0 if there is none.
+///
+/// # Safety
+///
+/// The name ends with a zero.
+#[no_mangle]
+pub unsafe extern "C" fn dephungo_size_of(record: *const c_char) -> usize {
+    // SAFETY: the caller promises it.
+    match unsafe { CStr::from_ptr(record) }.to_bytes() {
+        b"dephungo_range" => size_of::<Extent>(),
+        b"dephungo_peek" => size_of::<Peek>(),
+        b"dephungo_options" => size_of::<Options>(),
+        b"dephungo_spec" => size_of::<Spec>(),
+        b"dephungo_step" => size_of::<Step>(),
+        b"dephungo_fault" => size_of::<Fault>(),
+        b"dephungo_answer" => size_of::<Answer>(),
+        b"dephungo_buffers" => size_of::<Rooms>(),
+        _ => 0,
+    }
+}
+
 /// The call that `dephungo.h` describes.
 ///
 /// # Safety
 ///
-/// No pointer is null, each points to as much as its length or its room says, and what is written
-/// overlaps nothing else.
+/// `options`, `buffers` and `answer` are not null, nor is another pointer whose length or room is not
+/// 0. Each points to as much as that says, and what is written overlaps nothing else.
 #[no_mangle]
 pub unsafe extern "C" fn dephungo_read(
     input: *const u8,
@@ -345,20 +403,19 @@ pub unsafe extern "C" fn dephungo_read(
     buffers: *mut Rooms,
     answer: *mut Answer,
 ) -> u32 {
-    use std::slice::{from_raw_parts, from_raw_parts_mut};
     // SAFETY: the caller promises all of it, and records and bytes may hold any numbers.
     unsafe {
         let it = &*buffers;
         read(
-            from_raw_parts(input, input_length),
-            from_raw_parts(snippet, snippet_length),
+            given(input, input_length),
+            given(snippet, snippet_length),
             &*options,
-            from_raw_parts_mut(it.steps, it.step_room),
-            from_raw_parts_mut(it.specs, it.spec_room),
-            from_raw_parts_mut(it.faults, it.fault_room),
-            from_raw_parts_mut(it.texts, it.text_room),
-            from_raw_parts_mut(it.lines, it.line_room),
-            from_raw_parts_mut(it.peeks, it.peek_room),
+            room(it.steps, it.step_room),
+            room(it.specs, it.spec_room),
+            room(it.faults, it.fault_room),
+            room(it.texts, it.text_room),
+            room(it.lines, it.line_room),
+            room(it.peeks, it.peek_room),
             &mut *answer,
         )
     }

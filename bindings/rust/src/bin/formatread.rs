@@ -4,3 +4,9 @@ use std::process::ExitCode;
 fn main() -> ExitCode {
     dephungo::programs::formatread()
 }
+
+/// The system calls this before `main`.
+#[cfg(target_os = "linux")]
+#[used]
+#[link_section = ".init_array"]
+static BEFORE_MAIN: extern "C" fn() = dephungo::programs::note_closed_output;

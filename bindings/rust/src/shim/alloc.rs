@@ -142,6 +142,7 @@ impl<K: Ord, V> MapIn<K, V> for BTreeMap<K, V> {
 pub trait StringIn: Sized {
     fn made_for(room: usize) -> Result<Self, AllocError>;
     fn made_from(text: &str) -> Result<Self, AllocError>;
+    fn made_from_bytes(bytes: &[u8]) -> Result<Self, AllocError>;
     fn try_push(&mut self, c: char) -> Result<(), AllocError>;
     fn try_push_str(&mut self, text: &str) -> Result<(), AllocError>;
     fn try_reserve_more(&mut self, room: usize) -> Result<(), AllocError>;
@@ -156,6 +157,11 @@ impl StringIn for String {
     #[inline(always)]
     fn made_from(text: &str) -> Result<String, AllocError> {
         Ok(String::from(text))
+    }
+
+    #[inline(always)]
+    fn made_from_bytes(bytes: &[u8]) -> Result<String, AllocError> {
+        Ok(String::from_utf8_lossy(bytes).into_owned())
     }
 
     #[inline(always)]

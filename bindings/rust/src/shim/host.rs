@@ -1,7 +1,19 @@
-//! The process of a program: arguments, streams, files and the environment. A call that fails is
-//! not tried again, and nothing that was written waits in a buffer.
+//! The process of a program: arguments, streams, files and the environment. Nothing that was
+//! written waits in a buffer.
 use std::fmt::Display;
 use std::io::{self, Read, Write};
+use std::sync::atomic::{AtomicBool, Ordering};
+
+/// Whether standard output was closed when the program began.
+static IS_OUTPUT_CLOSED: AtomicBool = AtomicBool::new(false);
+
+/// Notes whether standard output is closed. It does so on Linux, before `main`: the standard library
+/// then opens `/dev/null` in its place, where all that is written is lost without an error.
+pub fn note_closed_output() {
+    let is_closed = std::fs::symlink_metadata("/proc/self/fd").is_ok()
+        && std::fs::symlink_metadata("/proc/self/fd/1").is_err();
+    IS_OUTPUT_CLOSED.store(is_closed, Ordering::Relaxed);
+}
 
 /// The process of a program.
 pub struct HostRuntime;
@@ -32,6 +44,18 @@ impl HostRuntime {
         self.stderr().write_all(text.to_string().as_bytes())
     }
 
+    /// Fills a buffer with random bytes: those of the keys that the standard library gives each of
+    /// its hash maps.
+    pub fn fill_bytes(&self, bytes: &mut [u8]) -> io::Result<()> {
+        use std::hash::{BuildHasher, Hasher};
+        for part in bytes.chunks_mut(8) {
+            let keys = std::collections::hash_map::RandomState::new();
+            let number = keys.build_hasher().finish().to_ne_bytes();
+            part.copy_from_slice(&number[..part.len()]);
+        }
+        Ok(())
+    }
+
     /// Writes a line to standard error.
     pub fn eprintln(&self, text: impl Display) -> io::Result<()> {
         self.eprint(format_args!("{text}\n"))
@@ -47,11 +71,17 @@ impl Read for Stdin {
     }
 }
 
+/// The number of the system's error that a descriptor is not open.
+const BAD_DESCRIPTOR: i32 = 9;
+
 /// Standard output.
 pub struct Stdout;
 
 impl Write for Stdout {
     fn write(&mut self, bytes: &[u8]) -> io::Result<usize> {
+        if IS_OUTPUT_CLOSED.load(Ordering::Relaxed) {
+            return Err(io::Error::from_raw_os_error(BAD_DESCRIPTOR));
+        }
         let mut stream = io::stdout();
         let count = stream.write(bytes)?;
         stream.flush()?;
@@ -156,61 +186,183 @@ pub mod env {
     }
 }
 
-/// Files and folders, by paths that are UTF-8.
+/// Files and folders, by paths that are UTF-8. On systems that are not like Unix a file has no number
+/// and no mode.
 pub mod fs {
     use super::HostRuntime;
     use std::ffi::OsString;
-    use std::io::{Error, ErrorKind, Result, Write};
+    use std::io::{Error, ErrorKind, Read, Result};
     use std::marker::PhantomData;
+    #[cfg(unix)]
+    use std::os::unix::{
+        fs::{FileExt, MetadataExt, OpenOptionsExt},
+        io::AsRawFd,
+    };
 
-    /// A file that is open to be written.
+    /// What the system says of a file or a folder.
+    pub struct Metadata(std::fs::Metadata);
+
+    impl Metadata {
+        /// Returns whether it is a folder.
+        pub fn is_dir(&self) -> bool {
+            self.0.is_dir()
+        }
+
+        /// Returns whether it is a regular file.
+        pub fn is_file(&self) -> bool {
+            self.0.is_file()
+        }
+
+        /// Returns the number of its bytes.
+        pub fn len(&self) -> u64 {
+            self.0.len()
+        }
+
+        /// Returns its permissions.
+        pub fn permissions(&self) -> std::fs::Permissions {
+            self.0.permissions()
+        }
+
+        /// Returns the number of its device.
+        pub fn dev(&self) -> u64 {
+            #[cfg(unix)]
+            return self.0.dev();
+            #[cfg(not(unix))]
+            0
+        }
+
+        /// Returns its number there.
+        pub fn ino(&self) -> u64 {
+            #[cfg(unix)]
+            return self.0.ino();
+            #[cfg(not(unix))]
+            0
+        }
+    }
+
+    /// The ways to open a file.
+    pub struct OpenOptions(std::fs::OpenOptions);
+
+    impl OpenOptions {
+        /// Returns the options of which none is set.
+        pub fn new() -> OpenOptions {
+            OpenOptions(std::fs::OpenOptions::new())
+        }
+
+        /// Sets whether the file is read.
+        pub fn read(&mut self, is_read: bool) -> &mut OpenOptions {
+            self.0.read(is_read);
+            self
+        }
+
+        /// Sets whether the file is written.
+        pub fn write(&mut self, is_written: bool) -> &mut OpenOptions {
+            self.0.write(is_written);
+            self
+        }
+
+        /// Sets whether the file is made, and no file may have its path.
+        pub fn create_new(&mut self, is_new: bool) -> &mut OpenOptions {
+            self.0.create_new(is_new);
+            self
+        }
+
+        /// Sets the mode of a file that is made.
+        pub fn mode(&mut self, _mode: u32) -> &mut OpenOptions {
+            #[cfg(unix)]
+            self.0.mode(_mode);
+            self
+        }
+
+        /// Opens a file.
+        pub fn open(&self, _: &HostRuntime, path: &str) -> Result<File> {
+            Ok(File(self.0.open(path)?))
+        }
+    }
+
+    /// An open file.
     pub struct File(std::fs::File);
 
     impl File {
-        /// Makes a file. Returns `Err` if there is one.
-        pub fn create_new(_: &HostRuntime, path: &str) -> Result<File> {
-            let mut options = std::fs::OpenOptions::new();
-            Ok(File(options.write(true).create_new(true).open(path)?))
+        /// Returns what the system says of it.
+        pub fn metadata(&self) -> Result<Metadata> {
+            Ok(Metadata(self.0.metadata()?))
+        }
+
+        /// Sets its length.
+        pub fn set_len(&self, length: u64) -> Result<()> {
+            self.0.set_len(length)
+        }
+
+        /// Sets its permissions.
+        pub fn set_permissions(&self, permissions: std::fs::Permissions) -> Result<()> {
+            self.0.set_permissions(permissions)
         }
 
         /// Waits until what was written is on the disk.
         pub fn sync_all(&self) -> Result<()> {
             self.0.sync_all()
         }
-    }
 
-    impl Write for File {
-        fn write(&mut self, bytes: &[u8]) -> Result<usize> {
-            self.0.write(bytes)
+        /// Returns the number of its descriptor, or -1 where files have none.
+        pub fn as_raw_fd(&self) -> i32 {
+            #[cfg(unix)]
+            return self.0.as_raw_fd();
+            #[cfg(not(unix))]
+            -1
         }
 
-        fn flush(&mut self) -> Result<()> {
-            self.0.flush()
+        /// Fills a buffer with its bytes from an offset on.
+        pub fn read_exact_at(&self, bytes: &mut [u8], offset: u64) -> Result<()> {
+            #[cfg(unix)]
+            return self.0.read_exact_at(bytes, offset);
+            #[cfg(not(unix))]
+            {
+                use std::io::{Seek, SeekFrom};
+                (&self.0).seek(SeekFrom::Start(offset))?;
+                (&self.0).read_exact(bytes)
+            }
+        }
+
+        /// Writes all bytes from an offset on.
+        pub fn write_all_at(&self, bytes: &[u8], offset: u64) -> Result<()> {
+            #[cfg(unix)]
+            return self.0.write_all_at(bytes, offset);
+            #[cfg(not(unix))]
+            {
+                use std::io::{Seek, SeekFrom, Write};
+                (&self.0).seek(SeekFrom::Start(offset))?;
+                (&self.0).write_all(bytes)
+            }
+        }
+    }
+
+    impl Read for File {
+        fn read(&mut self, bytes: &mut [u8]) -> Result<usize> {
+            self.0.read(bytes)
+        }
+    }
+
+    impl Read for &File {
+        fn read(&mut self, bytes: &mut [u8]) -> Result<usize> {
+            (&self.0).read(bytes)
         }
     }
 
     /// Opens a file, to be read.
-    pub fn open(_: &HostRuntime, path: &str) -> Result<std::fs::File> {
-        std::fs::File::open(path)
+    pub fn open(rt: &HostRuntime, path: &str) -> Result<File> {
+        let mut options = OpenOptions::new();
+        options.read(true).open(rt, path)
     }
 
     /// Returns what a path leads to.
-    pub fn metadata(_: &HostRuntime, path: &str) -> Result<std::fs::Metadata> {
-        std::fs::metadata(path)
+    pub fn metadata(_: &HostRuntime, path: &str) -> Result<Metadata> {
+        Ok(Metadata(std::fs::metadata(path)?))
     }
 
-    /// Sets the permissions of what a path leads to.
-    pub fn set_permissions(
-        _: &HostRuntime,
-        path: &str,
-        permissions: std::fs::Permissions,
-    ) -> Result<()> {
-        std::fs::set_permissions(path, permissions)
-    }
-
-    /// Gives a file another path, in place of the file that has it.
-    pub fn rename(_: &HostRuntime, from: &str, to: &str) -> Result<()> {
-        std::fs::rename(from, to)
+    /// Returns what has a path, where a link is one.
+    pub fn symlink_metadata(_: &HostRuntime, path: &str) -> Result<Metadata> {
+        Ok(Metadata(std::fs::symlink_metadata(path)?))
     }
 
     /// Removes a file.
@@ -228,6 +380,11 @@ pub mod fs {
     /// Returns the path from the root on, without links.
     pub fn canonicalize(_: &HostRuntime, path: &str) -> Result<String> {
         text_of(std::fs::canonicalize(path)?.into_os_string())
+    }
+
+    /// Returns the path that a link has in it.
+    pub fn read_link(_: &HostRuntime, path: &str) -> Result<String> {
+        text_of(std::fs::read_link(path)?.into_os_string())
     }
 
     /// An entry of a folder.

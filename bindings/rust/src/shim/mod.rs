@@ -3,22 +3,30 @@
 pub mod alloc;
 // The programs use a part of these two.
 #[allow(dead_code)]
-#[cfg(feature = "std")]
+#[cfg(feature = "programs")]
 pub mod clap;
 #[allow(dead_code)]
-#[cfg(feature = "std")]
+#[cfg(feature = "programs")]
 pub mod host;
+#[cfg(feature = "lint")]
 pub mod itoa;
 // The listing as JSON, which only a program writes, is all that uses it.
-#[cfg(feature = "std")]
+#[cfg(feature = "programs")]
 pub mod json;
+#[cfg(feature = "lint")]
 pub mod parser;
 pub mod simd;
 // Only a program uses it.
-#[cfg(feature = "std")]
+#[cfg(feature = "programs")]
 pub mod strsim;
+// So is the reader of manifests.
+#[allow(dead_code)]
+#[cfg(feature = "programs")]
+pub mod toml;
 pub mod unicode_ident;
+#[cfg(feature = "lint")]
 pub mod unicode_width;
+#[cfg(feature = "lint")]
 mod widths;
 mod xid;
 

@@ -21,7 +21,6 @@ pub struct AsmCall<'a> {
 }
 
 /// Adds the faults of templates and operands.
-#[inline]
 fn compare<'a>(
     faults: &mut Vec<AsmFault<'a>>,
     templates: &[Template<'a>],
@@ -47,7 +46,6 @@ fn compare<'a>(
 /// With `options(raw)` the templates have no placeholders, so none is to be given here. For each
 /// template the number of hashes, the length of the text in bytes, and 2 must together fit into a
 /// `usize`.
-#[inline]
 pub fn asm_faults<'a>(
     templates: &[Template<'a>],
     operands: &[Operand<'a>],

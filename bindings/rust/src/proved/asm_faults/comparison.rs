@@ -10,7 +10,6 @@ use crate::shim::alloc::AllocError;
 use crate::shim::prelude::*;
 
 /// Returns the index of the operand that a lookup means, or `None` if it means none.
-#[inline]
 fn meant<'a>(operands: &Operands<'a>, lookup: &Lookup<'a>) -> Option<usize> {
     match *lookup {
         Lookup::Index(_, index) => match operands.slots.get(index) {
@@ -23,7 +22,6 @@ fn meant<'a>(operands: &Operands<'a>, lookup: &Lookup<'a>) -> Option<usize> {
 }
 
 /// Returns of each operand whether a lookup means it.
-#[inline]
 fn marks<'a>(operands: &Operands<'a>, lookups: &[Lookup<'a>]) -> Result<Vec<bool>, AllocError> {
     let mut marks = crate::shim::try_vec![false; operands.slots.len()]?;
     for lookup in lookups {
@@ -37,13 +35,11 @@ fn marks<'a>(operands: &Operands<'a>, lookups: &[Lookup<'a>]) -> Result<Vec<bool
 }
 
 /// Returns whether an operand is marked, or has a register of its own.
-#[inline]
 fn is_settled(marks: &[bool], index: usize, slot: &Operand<'_>) -> bool {
     matches!(slot, Operand::Register { .. }) || matches!(marks.get(index), Some(true))
 }
 
 /// Adds the index of an operand, unless it is marked or has a register of its own.
-#[inline]
 fn push_unmarked(
     unused_indices: &mut Vec<usize>,
     marks: &[bool],
@@ -58,7 +54,6 @@ fn push_unmarked(
 
 /// Returns the indices of the operands that are not marked, but for those with a register of their
 /// own.
-#[inline]
 fn unmarked_operands(slots: &[Operand<'_>], marks: &[bool]) -> Result<Vec<usize>, AllocError> {
     let mut indices = Vec::new();
     for (index, slot) in slots.iter().enumerate() {
@@ -69,7 +64,6 @@ fn unmarked_operands(slots: &[Operand<'_>], marks: &[bool]) -> Result<Vec<usize>
 
 /// Returns the fault of a lookup, or `None` if there is none, where so many operands have neither a
 /// name nor a register of their own.
-#[inline]
 fn fault_of<'a>(
     operands: &Operands<'a>,
     positional_count: usize,
@@ -95,7 +89,6 @@ fn fault_of<'a>(
 }
 
 /// Adds the faults of lookups.
-#[inline]
 pub(crate) fn look_up<'a>(
     faults: &mut Vec<AsmFault<'a>>,
     operands: &Operands<'a>,
@@ -111,7 +104,6 @@ pub(crate) fn look_up<'a>(
 }
 
 /// Adds the fault of unused operands, if there are any.
-#[inline]
 fn push_unused(
     faults: &mut Vec<AsmFault<'_>>,
     unused_indices: Vec<usize>,
@@ -123,7 +115,6 @@ fn push_unused(
 }
 
 /// Adds the fault of the operands that no lookup means, if there are any.
-#[inline]
 pub(crate) fn check_unused<'a>(
     faults: &mut Vec<AsmFault<'a>>,
     operands: &Operands<'a>,

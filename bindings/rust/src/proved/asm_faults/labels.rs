@@ -25,7 +25,6 @@ pub struct AsmLabel {
 }
 
 /// Adds a label.
-#[inline]
 fn push_label(
     labels: &mut Vec<AsmLabel>,
     spot: AsmSpot,
@@ -42,7 +41,6 @@ fn push_label(
 }
 
 /// Adds the label of an operand that an index does not mean.
-#[inline]
 fn push_kind(
     labels: &mut Vec<AsmLabel>,
     index: usize,
@@ -58,7 +56,6 @@ fn push_kind(
 }
 
 /// Adds the label of the operand of an index, if there is one, and an index does not mean it.
-#[inline]
 fn push_kind_at(
     labels: &mut Vec<AsmLabel>,
     index: usize,
@@ -71,7 +68,6 @@ fn push_kind_at(
 }
 
 /// Adds the labels of the operands of these indices that an index does not mean.
-#[inline]
 fn push_kinds(
     labels: &mut Vec<AsmLabel>,
     operands: &[Operand<'_>],
@@ -86,7 +82,6 @@ fn push_kinds(
 }
 
 /// Adds the labels of an operand without a name, which stands after these others.
-#[inline]
 fn push_late(
     labels: &mut Vec<AsmLabel>,
     operands: &[Operand<'_>],
@@ -99,7 +94,6 @@ fn push_late(
 }
 
 /// Adds the labels of a wrong index of the placeholder at `spot`.
-#[inline]
 fn push_wrong(
     labels: &mut Vec<AsmLabel>,
     operands: &[Operand<'_>],
@@ -112,7 +106,6 @@ fn push_wrong(
 }
 
 /// Adds the label of the second range of an error of a template, if it has one.
-#[inline]
 fn push_second(
     labels: &mut Vec<AsmLabel>,
     template: usize,
@@ -126,7 +119,6 @@ fn push_second(
 }
 
 /// Returns the text of the place of an error of a template.
-#[inline]
 fn error_text(error: &ParseError) -> Result<String, AllocError> {
     let mut text = String::made_from(&error.label)?;
     text.try_push_str(" in asm template string")?;
@@ -134,7 +126,6 @@ fn error_text(error: &ParseError) -> Result<String, AllocError> {
 }
 
 /// Adds the labels of an error of a template.
-#[inline]
 fn push_error(
     labels: &mut Vec<AsmLabel>,
     template: usize,
@@ -147,7 +138,6 @@ fn push_error(
 }
 
 /// Adds the labels of a fault of a template.
-#[inline]
 fn push_text(
     labels: &mut Vec<AsmLabel>,
     template: usize,
@@ -159,7 +149,6 @@ fn push_text(
 }
 
 /// Adds the labels of operands that are not used.
-#[inline]
 fn push_unused(
     labels: &mut Vec<AsmLabel>,
     operands: &[Operand<'_>],
@@ -176,7 +165,6 @@ fn push_unused(
 
 impl<'a> AsmCall<'a> {
     /// Returns the labels of one of the faults, in rustc's order.
-    #[inline]
     pub(crate) fn labels(&self, fault: &AsmFault<'a>) -> Result<Vec<AsmLabel>, AllocError> {
         let mut labels = Vec::new();
         match fault {

@@ -29,7 +29,6 @@ pub(crate) struct Walk<'a> {
 }
 
 /// Returns a range of a template.
-#[inline]
 pub(crate) fn bytes_at(template: usize, span: &Range<usize>) -> AsmSpot {
     AsmSpot::Bytes {
         template,
@@ -39,7 +38,6 @@ pub(crate) fn bytes_at(template: usize, span: &Range<usize>) -> AsmSpot {
 }
 
 /// Returns a range of a template, or the whole template if there is none.
-#[inline]
 fn spot_of(template: usize, span: &Option<Range<usize>>) -> AsmSpot {
     match span {
         None => AsmSpot::Template(template),
@@ -48,7 +46,6 @@ fn spot_of(template: usize, span: &Option<Range<usize>>) -> AsmSpot {
 }
 
 /// Returns the first of the places of placeholders, or the whole template if there is none.
-#[inline]
 fn first_spot(template: usize, places: &[Range<usize>]) -> AsmSpot {
     match places.first() {
         None => AsmSpot::Template(template),
@@ -57,7 +54,6 @@ fn first_spot(template: usize, places: &[Range<usize>]) -> AsmSpot {
 }
 
 /// Returns the places after the first one.
-#[inline]
 fn others(places: &[Range<usize>]) -> &[Range<usize>] {
     match places.split_first() {
         None => places,
@@ -73,7 +69,6 @@ fn is_next(position: &Position<'_>) -> bool {
 
 /// Returns the lookup of the position of a placeholder at a place, where one without a position
 /// means the operand of the index `next`.
-#[inline]
 fn position_lookup<'a>(
     template: usize,
     next: usize,
@@ -102,7 +97,6 @@ fn is_long(ty: &str) -> bool {
 }
 
 /// Adds the lookup for the modifier of a placeholder.
-#[inline]
 fn push_modifier<'a>(
     lookups: &mut Vec<Lookup<'a>>,
     template: usize,
@@ -118,7 +112,6 @@ fn push_modifier<'a>(
 }
 
 /// Adds the lookups for a placeholder at a place.
-#[inline]
 fn push_argument<'a>(
     walk: &mut Walk<'a>,
     template: usize,
@@ -136,7 +129,6 @@ fn push_argument<'a>(
 
 /// Adds the lookups for a piece, where `places` are those of its placeholder and of the later
 /// ones.
-#[inline]
 fn push_piece<'a>(
     walk: &mut Walk<'a>,
     template: usize,
@@ -152,7 +144,6 @@ fn push_piece<'a>(
 }
 
 /// Returns the places after that of a piece, if it is a placeholder.
-#[inline]
 fn places_after<'p>(places: &'p [Range<usize>], piece: &Piece<'_>) -> &'p [Range<usize>] {
     match piece {
         Piece::Lit(_) => places,
@@ -162,7 +153,6 @@ fn places_after<'p>(places: &'p [Range<usize>], piece: &Piece<'_>) -> &'p [Range
 
 /// Adds the lookups for the pieces of a template, whose placeholders have these places, in their
 /// order.
-#[inline]
 pub(crate) fn push_pieces<'a>(
     walk: &mut Walk<'a>,
     template: usize,

@@ -23,7 +23,6 @@ pub struct AsmNote {
 }
 
 /// Adds a note.
-#[inline]
 fn push_note(
     notes: &mut Vec<AsmNote>,
     text: &str,
@@ -45,7 +44,6 @@ fn noun(operands: &[Operand<'_>], count: usize) -> &'static str {
 }
 
 /// Adds so many operands in words.
-#[inline]
 fn put_count(out: &mut String, count: usize, word: &str) -> Result<(), AllocError> {
     if count == 0 {
         out.try_push_str("no ")?;
@@ -67,7 +65,6 @@ fn put_count(out: &mut String, count: usize, word: &str) -> Result<(), AllocErro
 }
 
 /// Adds the note of the operand of an index, if there is one, and an index does not mean it.
-#[inline]
 fn push_kind(
     notes: &mut Vec<AsmNote>,
     index: usize,
@@ -89,7 +86,6 @@ fn push_kind(
 }
 
 /// Returns how many operands an index may mean, in words.
-#[inline]
 fn count_text(count: usize, word: &str) -> Result<String, AllocError> {
     let mut text = String::new();
     put_count(&mut text, count, word)?;
@@ -97,7 +93,6 @@ fn count_text(count: usize, word: &str) -> Result<String, AllocError> {
 }
 
 /// Adds the notes of a wrong index, where an index may mean so many operands.
-#[inline]
 fn push_wrong(
     notes: &mut Vec<AsmNote>,
     operands: &[Operand<'_>],
@@ -111,7 +106,6 @@ fn push_wrong(
 }
 
 /// Returns the help of a wrong index, or `None` if there is none.
-#[inline]
 fn wrong_help(operands: &[Operand<'_>], index: usize) -> Result<Option<AsmNote>, AllocError> {
     match operands.get(index) {
         Some(Operand::Register { .. }) => {
@@ -125,7 +119,6 @@ fn wrong_help(operands: &[Operand<'_>], index: usize) -> Result<Option<AsmNote>,
 }
 
 /// Adds the note of a fault of a template, if it has one.
-#[inline]
 fn push_text(notes: &mut Vec<AsmNote>, fault: &Fault<'_>) -> Result<(), AllocError> {
     let error = fault.error()?;
     if let Some(note) = &error.note {
@@ -142,7 +135,6 @@ fn put_name(out: &mut String, name: &str) -> Result<(), AllocError> {
 }
 
 /// Adds the position of a placeholder for an operand with this name or this index.
-#[inline]
 fn put_reference(out: &mut String, index: usize, name: Option<&str>) -> Result<(), AllocError> {
     match name {
         Some(name) => put_name(out, name),
@@ -151,7 +143,6 @@ fn put_reference(out: &mut String, index: usize, name: Option<&str>) -> Result<(
 }
 
 /// Adds placeholders of operands.
-#[inline]
 fn put_placeholders(
     out: &mut String,
     operands: &[Operand<'_>],
@@ -178,7 +169,6 @@ fn unused_start(count: usize) -> &'static str {
 }
 
 /// Returns the help of operands that are not used.
-#[inline]
 fn unused_help(operands: &[Operand<'_>], unused_indices: &[usize]) -> Result<AsmNote, AllocError> {
     let mut text = String::made_from(unused_start(unused_indices.len()))?;
     put_placeholders(&mut text, operands, unused_indices)?;
@@ -188,7 +178,6 @@ fn unused_help(operands: &[Operand<'_>], unused_indices: &[usize]) -> Result<Asm
 
 impl<'a> AsmCall<'a> {
     /// Returns the notes of one of the faults, in rustc's order.
-    #[inline]
     pub(crate) fn notes(&self, fault: &AsmFault<'a>) -> Result<Vec<AsmNote>, AllocError> {
         let mut notes = Vec::new();
         match fault {
@@ -212,7 +201,6 @@ impl<'a> AsmCall<'a> {
 
     /// Returns the help of one of the faults, or `None` if it has none. rustc says it after the
     /// notes.
-    #[inline]
     pub(crate) fn help(&self, fault: &AsmFault<'a>) -> Result<Option<AsmNote>, AllocError> {
         match fault {
             AsmFault::WrongIndex { index, .. } => wrong_help(&self.operands, *index),

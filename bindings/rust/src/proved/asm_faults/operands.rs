@@ -39,7 +39,6 @@ pub(crate) struct Operands<'a> {
 }
 
 /// Returns no operands. Does not allocate.
-#[inline]
 fn no_operands<'a>() -> Operands<'a> {
     Operands {
         slots: Vec::new(),
@@ -74,7 +73,6 @@ fn first_of(indices: &[usize]) -> &[usize] {
 
 /// Returns the indices of the first operands that have a name, and then of the first that have a
 /// register of their own.
-#[inline]
 fn others_of(operands: &Operands<'_>) -> Result<Vec<usize>, AllocError> {
     let mut earlier_operands = Vec::new();
     earlier_operands.try_extend_from_slice(first_of(&operands.named_operands))?;
@@ -84,7 +82,6 @@ fn others_of(operands: &Operands<'_>) -> Result<Vec<usize>, AllocError> {
 
 /// Adds the fault of an operand without a name and without a register of its own, if these others
 /// stand in front of it.
-#[inline]
 fn push_late(
     faults: &mut Vec<AsmFault<'_>>,
     operand: usize,
@@ -101,7 +98,6 @@ fn push_late(
 
 /// Adds an operand without a name and without a register of its own, and its fault if it stands
 /// after one that has one of them.
-#[inline]
 fn add_unnamed<'a>(
     operands: &mut Operands<'a>,
     faults: &mut Vec<AsmFault<'a>>,
@@ -115,7 +111,6 @@ fn add_unnamed<'a>(
 
 /// Adds an operand with a name, or its fault if that is the name of an earlier one, and the operand
 /// then counts as unnamed.
-#[inline]
 fn add_named<'a>(
     operands: &mut Operands<'a>,
     faults: &mut Vec<AsmFault<'a>>,
@@ -140,7 +135,6 @@ fn add_named<'a>(
 }
 
 /// Adds an operand with a register of its own, and its fault if it has a name.
-#[inline]
 fn add_register<'a>(
     operands: &mut Operands<'a>,
     faults: &mut Vec<AsmFault<'a>>,
@@ -156,7 +150,6 @@ fn add_register<'a>(
 }
 
 /// Adds an operand, and its fault if it has one.
-#[inline]
 fn add<'a>(
     operands: &mut Operands<'a>,
     faults: &mut Vec<AsmFault<'a>>,
@@ -172,7 +165,6 @@ fn add<'a>(
 }
 
 /// Returns the operand of an index, or `None` if there is none.
-#[inline]
 pub(crate) fn operand_at<'a>(operands: &[Operand<'a>], index: usize) -> Option<Operand<'a>> {
     match operands.get(index) {
         Some(operand) => Some(*operand),
@@ -181,7 +173,6 @@ pub(crate) fn operand_at<'a>(operands: &[Operand<'a>], index: usize) -> Option<O
 }
 
 /// Returns how many operands have neither a name nor a register of their own.
-#[inline]
 pub(crate) fn count_unnamed(operands: &[Operand<'_>]) -> usize {
     let mut count = 0;
     for operand in operands {
@@ -193,7 +184,6 @@ pub(crate) fn count_unnamed(operands: &[Operand<'_>]) -> usize {
 }
 
 /// Returns operands as placeholders refer to them, and adds the faults of their list.
-#[inline]
 pub(crate) fn operands_of<'a>(
     faults: &mut Vec<AsmFault<'a>>,
     list: &[Operand<'a>],

@@ -23,7 +23,6 @@ pub struct Template<'a> {
 }
 
 /// Returns a text as a string.
-#[inline]
 fn owned_string(text: Option<&str>) -> Result<Option<String>, AllocError> {
     match text {
         None => Ok(None),
@@ -32,7 +31,6 @@ fn owned_string(text: Option<&str>) -> Result<Option<String>, AllocError> {
 }
 
 /// Returns the fault of a template that rustc shows, or `None` if it is in the grammar.
-#[inline]
 fn fault_of<'a>(template: Template<'a>) -> Result<Option<Fault<'a>>, AllocError> {
     let snippet = owned_string(template.snippet)?;
     let mut parser = Parser::new(
@@ -46,7 +44,6 @@ fn fault_of<'a>(template: Template<'a>) -> Result<Option<Fault<'a>>, AllocError>
 }
 
 /// Adds the lookups for the placeholders of a template.
-#[inline]
 fn push_template<'a>(
     walk: &mut Walk<'a>,
     index: usize,
@@ -66,7 +63,6 @@ fn push_template<'a>(
 
 /// Adds the lookups for the placeholders of templates, up to the first that is not in the grammar,
 /// and returns its fault, or `None` if there is none.
-#[inline]
 pub(crate) fn push_templates<'a>(
     walk: &mut Walk<'a>,
     templates: &[Template<'a>],

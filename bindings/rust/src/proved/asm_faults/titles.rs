@@ -15,7 +15,6 @@ use crate::shim::prelude::*;
 impl AsmFault<'_> {
     /// Returns the id of the fault in kebab case, as `wrong-operand`: the same for all faults of a
     /// kind. A fault of a template has the id of its [`Fault`]. Does not allocate.
-    #[inline]
     pub fn id(&self) -> &'static str {
         match self {
             AsmFault::PositionalAfter { .. } => "operand-order",
@@ -31,7 +30,6 @@ impl AsmFault<'_> {
 }
 
 /// Adds a number in decimal digits.
-#[inline]
 pub(crate) fn put_number(out: &mut String, number: usize) -> Result<(), AllocError> {
     let mut digits = Buffer::new();
     out.try_push_str(digits.format(number))?;
@@ -39,7 +37,6 @@ pub(crate) fn put_number(out: &mut String, number: usize) -> Result<(), AllocErr
 }
 
 /// Adds a text and a name between backquotes.
-#[inline]
 fn put_named(out: &mut String, text: &str, name: &str) -> Result<(), AllocError> {
     out.try_push_str(text)?;
     out.try_push_str("`")?;
@@ -49,7 +46,6 @@ fn put_named(out: &mut String, text: &str, name: &str) -> Result<(), AllocError>
 }
 
 /// Returns the name of an operand, or `None` if it has none or a register of its own.
-#[inline]
 pub(crate) fn given_name<'a>(operands: &[Operand<'a>], index: usize) -> Option<&'a str> {
     match operands.get(index) {
         Some(Operand::Named(name)) => Some(*name),
@@ -58,7 +54,6 @@ pub(crate) fn given_name<'a>(operands: &[Operand<'a>], index: usize) -> Option<&
 }
 
 /// Returns the name of an operand, or an empty text if it has none.
-#[inline]
 fn name_of<'a>(operands: &[Operand<'a>], index: usize) -> &'a str {
     match given_name(operands, index) {
         Some(name) => name,
@@ -67,7 +62,6 @@ fn name_of<'a>(operands: &[Operand<'a>], index: usize) -> &'a str {
 }
 
 /// Returns the label of an operand that is not used.
-#[inline]
 pub(crate) fn never_used(operands: &[Operand<'_>], index: usize) -> &'static str {
     match operands.get(index) {
         Some(Operand::Named(_)) => "named argument never used",
@@ -76,7 +70,6 @@ pub(crate) fn never_used(operands: &[Operand<'_>], index: usize) -> &'static str
 }
 
 /// Returns the title of operands that are not used.
-#[inline]
 fn unused_title(operands: &[Operand<'_>], unused_indices: &[usize]) -> &'static str {
     match unused_indices {
         [index] => never_used(operands, *index),
@@ -85,7 +78,6 @@ fn unused_title(operands: &[Operand<'_>], unused_indices: &[usize]) -> &'static 
 }
 
 /// Adds the title of a fault of a template.
-#[inline]
 fn put_text_title(out: &mut String, fault: &Fault<'_>) -> Result<(), AllocError> {
     let error = fault.error()?;
     out.try_push_str("invalid asm template string: ")?;
@@ -94,7 +86,6 @@ fn put_text_title(out: &mut String, fault: &Fault<'_>) -> Result<(), AllocError>
 }
 
 /// Adds the title of a wrong index.
-#[inline]
 fn put_index_title(out: &mut String, index: usize) -> Result<(), AllocError> {
     out.try_push_str("invalid reference to argument at index ")?;
     put_number(out, index)?;
@@ -103,7 +94,6 @@ fn put_index_title(out: &mut String, index: usize) -> Result<(), AllocError> {
 
 impl<'a> AsmCall<'a> {
     /// Adds the title of one of the faults to the end of `out`, as rustc has it.
-    #[inline]
     pub(crate) fn put_title(
         &self,
         out: &mut String,

@@ -39,7 +39,6 @@ pub struct AsmSite<'s, 'a> {
 }
 
 /// Returns the bytes of the file that a place of a call is.
-#[inline]
 fn asm_range(site: AsmSite<'_, '_>, spot: AsmSpot) -> Range<usize> {
     let (index, place) = match spot {
         AsmSpot::Operand(operand) => (0, Spot::Argument(operand)),
@@ -66,7 +65,6 @@ fn asm_range(site: AsmSite<'_, '_>, spot: AsmSpot) -> Range<usize> {
 }
 
 /// Returns labels with their ranges.
-#[inline]
 fn labels(site: AsmSite<'_, '_>, labels: Vec<AsmLabel>) -> Result<Vec<Label>, AllocError> {
     let mut list = Vec::new();
     for label in labels {
@@ -80,7 +78,6 @@ fn labels(site: AsmSite<'_, '_>, labels: Vec<AsmLabel>) -> Result<Vec<Label>, Al
 }
 
 /// Returns the range of a place, if there is one.
-#[inline]
 fn ranges(site: AsmSite<'_, '_>, spot: Option<AsmSpot>) -> Result<Vec<Range<usize>>, AllocError> {
     let mut ranges = Vec::new();
     if let Some(spot) = spot {
@@ -90,7 +87,6 @@ fn ranges(site: AsmSite<'_, '_>, spot: Option<AsmSpot>) -> Result<Vec<Range<usiz
 }
 
 /// Returns notes with the ranges that they show.
-#[inline]
 fn notes(site: AsmSite<'_, '_>, notes: Vec<AsmNote>) -> Result<Vec<Note>, AllocError> {
     let mut list = Vec::new();
     for note in notes {
@@ -104,7 +100,6 @@ fn notes(site: AsmSite<'_, '_>, notes: Vec<AsmNote>) -> Result<Vec<Note>, AllocE
 }
 
 /// Returns a help, which has no edits. Does not allocate.
-#[inline]
 fn help(help: Option<AsmNote>) -> Option<Help> {
     match help {
         None => None,
@@ -117,7 +112,6 @@ fn help(help: Option<AsmNote>) -> Option<Help> {
 
 /// Returns the range of the primary label that comes first in the file, or an empty one if there is
 /// none.
-#[inline]
 fn primary_span(site: AsmSite<'_, '_>, labels: &[Label]) -> Range<usize> {
     let mut start = 0;
     let mut end = 0;
@@ -133,7 +127,6 @@ fn primary_span(site: AsmSite<'_, '_>, labels: &[Label]) -> Range<usize> {
 }
 
 /// Returns the finding of a fault of a call.
-#[inline]
 fn finding<'c>(
     site: AsmSite<'_, '_>,
     call: &AsmCall<'c>,
@@ -163,7 +156,6 @@ fn is_template_fault(fault: &AsmFault<'_>) -> bool {
 }
 
 /// Adds the finding of a fault of a call, unless only that of a template counts.
-#[inline]
 fn put_finding<'c>(
     findings: &mut Vec<Finding>,
     site: AsmSite<'_, '_>,
@@ -178,7 +170,6 @@ fn put_finding<'c>(
 }
 
 /// Adds the findings of the faults of a call, or only that of a template.
-#[inline]
 pub fn put_findings<'c>(
     findings: &mut Vec<Finding>,
     site: AsmSite<'_, '_>,

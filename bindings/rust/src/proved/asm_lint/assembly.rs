@@ -26,7 +26,6 @@ pub fn reading_of(is_counted: bool) -> CallReading {
 }
 
 /// Returns the operand that an argument is, or `None` if it is none.
-#[inline]
 fn operand_of<'a>(tokens: &[Token<'a>], argument: &Argument, part: AsmPart) -> Option<Operand<'a>> {
     match part {
         AsmPart::Operand => match name_of(tokens, argument) {
@@ -53,7 +52,6 @@ struct Operands<'a> {
 }
 
 /// Adds an argument after the templates.
-#[inline]
 fn add<'a>(
     all_operands: &mut Operands<'a>,
     part: &Part<'a>,
@@ -70,7 +68,6 @@ fn add<'a>(
 }
 
 /// Returns the arguments after the templates.
-#[inline]
 fn operands_of<'a>(part: &Part<'a>, arguments: &[Argument]) -> Result<Operands<'a>, AllocError> {
     let mut operands = Operands {
         list: Vec::new(),
@@ -92,7 +89,6 @@ fn first_token<'a>(tokens: &[Token<'a>], argument: &Argument) -> Token<'a> {
 
 /// Reads the template that an argument is. Returns `None` if its literal stands for no text, and
 /// `Err` if an allocation fails.
-#[inline]
 fn read_template<'a>(
     tokens: &[Token<'a>],
     argument: &Argument,
@@ -111,7 +107,6 @@ fn read_template<'a>(
 
 /// Reads the templates that arguments are. Returns `None` if a literal of them stands for no text,
 /// and `Err` if an allocation fails.
-#[inline]
 fn read_templates<'a>(
     tokens: &[Token<'a>],
     arguments: &[Argument],
@@ -127,7 +122,6 @@ fn read_templates<'a>(
 }
 
 /// Returns templates as placeholders are read in them.
-#[inline]
 fn templates_of<'c>(
     template_list: &'c [ReadTemplate<'_>],
 ) -> Result<Vec<Template<'c>>, AllocError> {
@@ -143,7 +137,6 @@ fn templates_of<'c>(
 }
 
 /// Checks a call with these templates and operands, and adds its findings.
-#[inline]
 fn check_call<'c>(
     findings: &mut Vec<Finding>,
     site: AsmSite<'_, '_>,
@@ -170,7 +163,6 @@ fn read_unless<'c>(
 
 /// Reads a call whose templates are arguments, with the other arguments after them, and adds its
 /// findings.
-#[inline]
 fn read_literals<'s, 'a>(
     findings: &mut Vec<Finding>,
     text: &'a str,
@@ -201,7 +193,6 @@ fn are_known(is_unknown: bool, is_counted: bool) -> bool {
 }
 
 /// Reads a call of a macro for inline assembly, and adds its findings.
-#[inline]
 pub fn read_asm<'a>(
     findings: &mut Vec<Finding>,
     text: &'a str,

@@ -15,7 +15,6 @@ use crate::shim::alloc::AllocError;
 use crate::shim::prelude::*;
 
 /// Returns whether the token of an index is this word.
-#[inline]
 fn has_word_at(tokens: &[Token<'_>], index: usize, word: &str) -> bool {
     match token_at(tokens, index) {
         Some(token) => is_text(&token, word),
@@ -24,7 +23,6 @@ fn has_word_at(tokens: &[Token<'_>], index: usize, word: &str) -> bool {
 }
 
 /// Returns whether `#[diagnostic::on_unimplemented(` stands from a token on.
-#[inline]
 fn begins_attribute(tokens: &[Token<'_>], index: usize) -> bool {
     is_mark(tokens, index, b'#')
         && is_mark(tokens, index + 1, b'[')
@@ -37,7 +35,6 @@ fn begins_attribute(tokens: &[Token<'_>], index: usize) -> bool {
 
 /// Returns the token that closes the list of the attribute that stands at a token, or `None` if no
 /// attribute does.
-#[inline]
 fn attribute_at(source: &Source<'_>, index: usize) -> Option<usize> {
     if !begins_attribute(source.tokens(), index) {
         return None;
@@ -47,14 +44,12 @@ fn attribute_at(source: &Source<'_>, index: usize) -> Option<usize> {
 
 /// Returns whether two tokens from one on are of the front of an item, of which the second opens a
 /// pair.
-#[inline]
 fn opens_front(tokens: &[Token<'_>], index: usize) -> bool {
     is_mark(tokens, index, b'#') && is_mark(tokens, index + 1, b'[')
         || has_word_at(tokens, index, "pub") && is_mark(tokens, index + 1, b'(')
 }
 
 /// Returns whether a token is a word of the front of an item.
-#[inline]
 fn is_modifier(tokens: &[Token<'_>], index: usize) -> bool {
     has_word_at(tokens, index, "pub")
         || has_word_at(tokens, index, "unsafe")
@@ -64,7 +59,6 @@ fn is_modifier(tokens: &[Token<'_>], index: usize) -> bool {
 
 /// Returns the token after the part of the front of an item that stands at a token, or `None` if no
 /// such part does.
-#[inline]
 fn after_front(source: &Source<'_>, index: usize) -> Option<usize> {
     let tokens = source.tokens();
     if opens_front(tokens, index) {
@@ -88,7 +82,6 @@ struct Front {
 }
 
 /// Returns the front of the item that starts at a token.
-#[inline]
 fn front_at(source: &Source<'_>, start: usize) -> Result<Front, AllocError> {
     let mut starts = Vec::new();
     let mut end = start;
@@ -106,7 +99,6 @@ fn sets_word(tokens: &[Token<'_>], option: &Argument, word: &str) -> bool {
 }
 
 /// Returns the literal that an option sets, or `None` if it sets none.
-#[inline]
 fn literal_of<'a>(tokens: &[Token<'a>], option: &Argument) -> Option<Token<'a>> {
     match token_at(tokens, option.start + 2) {
         Some(token) if option.end == option.start + 3 && is_text_leaf(&token) => Some(token),
@@ -115,7 +107,6 @@ fn literal_of<'a>(tokens: &[Token<'a>], option: &Argument) -> Option<Token<'a>> 
 }
 
 /// Returns whether an option counts, where a message and a label have been there or not.
-#[inline]
 fn is_effective(
     tokens: &[Token<'_>],
     has_message: bool,
@@ -128,7 +119,6 @@ fn is_effective(
 }
 
 /// Adds the literal that an option sets, if it counts.
-#[inline]
 fn put_literal<'a>(
     literals: &mut Vec<Token<'a>>,
     tokens: &[Token<'a>],
@@ -145,7 +135,6 @@ fn put_literal<'a>(
 }
 
 /// Reads these literals before a trait, and adds their findings.
-#[inline]
 fn read_texts<'a>(
     findings: &mut Vec<Finding>,
     text: &'a str,
@@ -159,7 +148,6 @@ fn read_texts<'a>(
 }
 
 /// Returns the literals of the options that count, in their order.
-#[inline]
 fn literals<'a>(tokens: &[Token<'a>], options: &[Argument]) -> Result<Vec<Token<'a>>, AllocError> {
     let mut literals = Vec::new();
     let mut has_message = false;
@@ -173,7 +161,6 @@ fn literals<'a>(tokens: &[Token<'a>], options: &[Argument]) -> Result<Vec<Token<
 }
 
 /// Reads the attribute of a trait that stands at a token, if one does, and adds its findings.
-#[inline]
 fn read_at<'a>(
     findings: &mut Vec<Finding>,
     text: &'a str,
@@ -194,7 +181,6 @@ fn read_at<'a>(
 
 /// Reads the attributes among the parts of the front of a trait, which start at these tokens, and
 /// adds their findings.
-#[inline]
 fn read_fronts<'a>(
     findings: &mut Vec<Finding>,
     text: &'a str,
@@ -209,7 +195,6 @@ fn read_fronts<'a>(
 }
 
 /// Returns the text of a token, or an empty one if there is no such token.
-#[inline]
 fn text_at<'a>(tokens: &[Token<'a>], index: usize) -> &'a str {
     match token_at(tokens, index) {
         Some(token) => token.text,
@@ -218,7 +203,6 @@ fn text_at<'a>(tokens: &[Token<'a>], index: usize) -> &'a str {
 }
 
 /// Reads the attributes of an item with this front, and adds their findings.
-#[inline]
 fn read_item<'a>(
     findings: &mut Vec<Finding>,
     text: &'a str,
@@ -241,7 +225,6 @@ fn read_item<'a>(
 }
 
 /// Reads the attributes of a file, which has these tokens, and adds their findings.
-#[inline]
 pub fn read_attributes<'a>(
     findings: &mut Vec<Finding>,
     text: &'a str,

@@ -19,7 +19,6 @@ pub struct Literal {
 }
 
 /// Returns whether a text begins with LF.
-#[inline]
 fn begins_line(text: &str) -> bool {
     match split_first(text) {
         Some((c, _)) => c == '\n',
@@ -34,7 +33,6 @@ fn is_dropped(c: char, rest: &str) -> bool {
 }
 
 /// Returns a text without the CR before each LF.
-#[inline]
 pub fn without_crs(text: &str) -> Result<String, AllocError> {
     if !text.contains('\r') {
         return Ok(String::made_from(text)?);
@@ -51,13 +49,11 @@ pub fn without_crs(text: &str) -> Result<String, AllocError> {
 }
 
 /// Returns whether a macro of this name appends a newline to its format string.
-#[inline]
 pub fn appends_newline(name: &[u8]) -> bool {
     name == b"println".as_slice() || name == b"eprintln".as_slice() || name == b"writeln".as_slice()
 }
 
 /// Appends a newline to a text, or nothing.
-#[inline]
 fn put_newline(text: &mut String, appended: bool) -> Result<(), AllocError> {
     if appended {
         text.try_push('\n')?;
@@ -68,7 +64,6 @@ fn put_newline(text: &mut String, appended: bool) -> Result<(), AllocError> {
 
 /// Reads the literal that a token is, and appends a newline to its text or not. Returns `None` if
 /// it stands for no text, and `Err` if an allocation fails.
-#[inline]
 pub fn read_literal(token: &str, appended_newline: bool) -> Result<Option<Literal>, AllocError> {
     let snippet = without_crs(token)?;
     let Some(LiteralText { mut text, style }) = literal_text(snippet.as_str())? else {
@@ -84,7 +79,6 @@ pub fn read_literal(token: &str, appended_newline: bool) -> Result<Option<Litera
 
 /// Returns the CRs of a token that its literal with lines that end with LF does not have, each as
 /// the byte offset in that literal of the LF after it, in ascending order.
-#[inline]
 pub fn dropped_crs(token: &str) -> Result<Vec<usize>, AllocError> {
     let mut offsets = Vec::new();
     if !token.contains('\r') {
@@ -102,8 +96,7 @@ pub fn dropped_crs(token: &str) -> Result<Vec<usize>, AllocError> {
 }
 
 /// Returns the byte offset in a token of a byte offset in its literal with lines that end with LF,
-/// which does not have these CRs: those before it count.
-#[inline]
+/// which does not have these CRs: those before it count. The CRs are those of [`dropped_crs`].
 pub fn offset_in(crs: &[usize], offset: usize) -> usize {
     let mut low = 0;
     let mut high = crs.len();

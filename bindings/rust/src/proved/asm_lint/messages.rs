@@ -26,7 +26,6 @@ pub struct Item<'s, 'a> {
 }
 
 /// Returns a help, which has no edits.
-#[inline]
 fn help(help: Option<&str>) -> Result<Option<Help>, AllocError> {
     match help {
         None => Ok(None),
@@ -39,7 +38,6 @@ fn help(help: Option<&str>) -> Result<Option<Help>, AllocError> {
 }
 
 /// Returns the finding of a fault, for a trait of this name.
-#[inline]
 fn finding(
     site: Site<'_, '_>,
     name: &str,
@@ -62,7 +60,6 @@ fn finding(
 }
 
 /// Adds the findings of faults, for a trait of this name.
-#[inline]
 fn put_findings(
     findings: &mut Vec<Finding>,
     site: Site<'_, '_>,
@@ -76,7 +73,6 @@ fn put_findings(
 }
 
 /// Reads the text that a literal stands for, before a trait, and adds its findings.
-#[inline]
 pub fn read_text<'a>(
     findings: &mut Vec<Finding>,
     text: &'a str,

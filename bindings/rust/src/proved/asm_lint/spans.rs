@@ -32,7 +32,6 @@ pub struct Site<'s, 'a> {
 
 /// Returns the range between two byte offsets of a text. An offset within a character goes back to
 /// its start, and the range is empty if its end comes before its start.
-#[inline]
 pub fn range_in(text: &str, from: usize, to: usize) -> Range<usize> {
     let start = text.boundary_at_most(from);
     let end = text.boundary_at_most(to);
@@ -44,7 +43,6 @@ pub fn range_in(text: &str, from: usize, to: usize) -> Range<usize> {
 }
 
 /// Returns the bytes from one token to the one before another.
-#[inline]
 pub fn tokens_range(tokens: &[Token<'_>], from: usize, to: usize) -> Range<usize> {
     let Some(first) = token_at(tokens, from) else {
         return 0..0;
@@ -56,7 +54,6 @@ pub fn tokens_range(tokens: &[Token<'_>], from: usize, to: usize) -> Range<usize
 }
 
 /// Returns the offset of the word that ends at an offset of a text, or that offset if none does.
-#[inline]
 fn word_start(bytes: &[u8], end: usize) -> usize {
     let mut start = end;
     while start > 0 && is_in_path(bytes[start - 1]) {
@@ -67,7 +64,6 @@ fn word_start(bytes: &[u8], end: usize) -> usize {
 
 /// Returns the offset of the path whose last word starts at an offset of a text, where no white
 /// space stands in it.
-#[inline]
 fn path_start(text: &str, name: usize) -> usize {
     let bytes = text.as_bytes();
     let mut start = name.min(bytes.len());
@@ -78,14 +74,12 @@ fn path_start(text: &str, name: usize) -> usize {
 }
 
 /// Returns the bytes of a call, from the path of its macro to the delimiter that closes it.
-#[inline]
 pub fn call_range(text: &str, tokens: &[Token<'_>], name: usize, close: usize) -> Range<usize> {
     let range = tokens_range(tokens, name, close.saturating_add(1));
     path_start(text, range.start)..range.end
 }
 
 /// Returns the bytes of an argument, or none if there is no such argument.
-#[inline]
 fn argument_range(site: Site<'_, '_>, index: usize) -> Range<usize> {
     match site.arguments.get(index) {
         Some(argument) => tokens_range(site.tokens, argument.start, argument.end),
@@ -94,7 +88,6 @@ fn argument_range(site: Site<'_, '_>, index: usize) -> Range<usize> {
 }
 
 /// Returns the bytes of the first token of an argument, which is its name if it has one.
-#[inline]
 fn name_range(site: Site<'_, '_>, index: usize) -> Range<usize> {
     match site.arguments.get(index) {
         Some(argument) => tokens_range(
@@ -107,7 +100,6 @@ fn name_range(site: Site<'_, '_>, index: usize) -> Range<usize> {
 }
 
 /// Returns the bytes of the value of an argument: without a name and its `=`.
-#[inline]
 fn value_range(site: Site<'_, '_>, index: usize) -> Range<usize> {
     match site.arguments.get(index) {
         Some(argument) => {
@@ -124,7 +116,6 @@ fn value_range(site: Site<'_, '_>, index: usize) -> Range<usize> {
 
 /// Returns the bytes of the value of an argument, and those after it up to the value of the next
 /// one, if there is one.
-#[inline]
 fn range_up_to_next(site: Site<'_, '_>, index: usize) -> Range<usize> {
     let value = value_range(site, index);
     let next = index.saturating_add(1);
@@ -148,7 +139,6 @@ fn whole_literal(literal: Token<'_>) -> Range<usize> {
 }
 
 /// Returns the empty range before the closing quote of the literal.
-#[inline]
 fn literal_end(literal: Token<'_>) -> Range<usize> {
     let quote = match literal.text.rfind('"') {
         Some(quote) => quote,
@@ -160,7 +150,6 @@ fn literal_end(literal: Token<'_>) -> Range<usize> {
 
 /// Returns the bytes of a range of the literal, whose offsets are those of the literal with lines
 /// that end with LF.
-#[inline]
 fn literal_range(site: Site<'_, '_>, from: usize, to: usize) -> Range<usize> {
     let literal = site.literal;
     let start = offset_in(site.crs, from);
@@ -169,7 +158,6 @@ fn literal_range(site: Site<'_, '_>, from: usize, to: usize) -> Range<usize> {
 }
 
 /// Returns the bytes of the file that a place of a call is.
-#[inline]
 pub fn spot_range(site: Site<'_, '_>, spot: Spot) -> Range<usize> {
     let literal = site.literal;
     let range = match spot {

@@ -36,7 +36,6 @@ pub(crate) struct Arguments<'a> {
 }
 
 /// Returns no arguments. Does not allocate.
-#[inline]
 pub(crate) fn no_arguments<'a>() -> Arguments<'a> {
     Arguments {
         list: Vec::new(),
@@ -64,7 +63,6 @@ pub(crate) fn insert<'a>(
 
 /// Returns the index of the argument with the name that an argument has, or `None` if it has none
 /// or there is none.
-#[inline]
 fn first_of<'a>(arguments: &Arguments<'a>, argument: &FormatArgument<'a>) -> Option<usize> {
     match argument.name {
         None => None,
@@ -73,7 +71,6 @@ fn first_of<'a>(arguments: &Arguments<'a>, argument: &FormatArgument<'a>) -> Opt
 }
 
 /// Adds an argument to those that count.
-#[inline]
 fn keep<'a>(
     arguments: &mut Arguments<'a>,
     index: usize,
@@ -88,7 +85,6 @@ fn keep<'a>(
 }
 
 /// Adds an argument to those that count, unless an earlier one has its name, which is then a fault.
-#[inline]
 fn add<'a>(
     arguments: &mut Arguments<'a>,
     faults: &mut Vec<CallFault<'a>>,
@@ -109,7 +105,6 @@ fn is_late<'a>(arguments: &Arguments<'a>, argument: &FormatArgument<'a>) -> bool
 }
 
 /// Returns the indices of those of arguments that have a name.
-#[inline]
 fn named_of(list: &[Entry<'_>]) -> Result<Vec<usize>, AllocError> {
     let mut named_arguments = Vec::new();
     for entry in list {
@@ -122,7 +117,6 @@ fn named_of(list: &[Entry<'_>]) -> Result<Vec<usize>, AllocError> {
 
 /// Returns the arguments that count, or `None` if the first one without a name after one with a
 /// name ends the list. Adds the faults of the list.
-#[inline]
 pub(crate) fn arguments_of<'a>(
     faults: &mut Vec<CallFault<'a>>,
     call_arguments: &[FormatArgument<'a>],

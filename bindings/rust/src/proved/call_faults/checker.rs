@@ -15,7 +15,7 @@ use crate::shim::parser::{read_all, Parser, Reading};
 use crate::shim::prelude::*;
 
 /// The format string of a call.
-#[derive(Clone, Copy)]
+#[derive(Clone, Copy, Debug, Eq, PartialEq)]
 pub struct FormatString<'a> {
     /// The text that it stands for.
     pub text: &'a str,
@@ -48,7 +48,6 @@ pub struct CallReport<'a> {
 }
 
 /// Returns a text as a string.
-#[inline]
 fn owned_string(text: Option<&str>) -> Result<Option<String>, AllocError> {
     match text {
         None => Ok(None),
@@ -57,7 +56,6 @@ fn owned_string(text: Option<&str>) -> Result<Option<String>, AllocError> {
 }
 
 /// Returns the fault of a format string that rustc shows, or `None` if it is in the grammar.
-#[inline]
 fn fault_of<'a>(string: FormatString<'a>) -> Result<Option<Fault<'a>>, AllocError> {
     let snippet = owned_string(string.snippet)?;
     let mut parser = Parser::new(
@@ -72,7 +70,6 @@ fn fault_of<'a>(string: FormatString<'a>) -> Result<Option<Fault<'a>>, AllocErro
 
 /// Returns the faults of a call whose format string has these pieces, and puts the indices of
 /// the arguments that count into `indices`. `is_read` is whether the string is in the grammar.
-#[inline]
 fn faults_of<'a>(
     string: FormatString<'a>,
     is_read: bool,
@@ -107,7 +104,6 @@ fn faults_of<'a>(
 /// faults, as rustc reports them. A placeholder's spans are those of the parser.
 ///
 /// The number of hashes, the length of the text in bytes, and 2 must together fit into a `usize`.
-#[inline]
 pub fn call_faults<'a>(
     string: FormatString<'a>,
     arguments: &'a [FormatArgument<'a>],

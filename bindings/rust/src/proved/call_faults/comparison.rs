@@ -11,7 +11,6 @@ use crate::shim::prelude::*;
 use alloc::collections::BTreeMap;
 
 /// Returns the index of the argument that a lookup means, or `None` if it means none.
-#[inline]
 fn meant<'a>(arguments: &Arguments<'a>, lookup: &Lookup<'a>) -> Option<usize> {
     match *lookup {
         Lookup::Refer(_, ArgRef::Index(n)) => arguments.list.get(n).map(|entry| entry.index),
@@ -21,7 +20,6 @@ fn meant<'a>(arguments: &Arguments<'a>, lookup: &Lookup<'a>) -> Option<usize> {
 }
 
 /// Returns of each argument whether a lookup means it, if there are `count` ones.
-#[inline]
 fn marks<'a>(
     arguments: &Arguments<'a>,
     count: usize,
@@ -39,7 +37,6 @@ fn marks<'a>(
 }
 
 /// Returns the reference of a lookup, if it is one by an index that is at least `count`.
-#[inline]
 fn reference_beyond(count: usize, lookup: &Lookup<'_>) -> Option<InvalidReference> {
     match *lookup {
         Lookup::Refer(reference, ArgRef::Index(index)) if index >= count => {
@@ -50,7 +47,6 @@ fn reference_beyond(count: usize, lookup: &Lookup<'_>) -> Option<InvalidReferenc
 }
 
 /// Returns the references by an index that is at least `count`.
-#[inline]
 fn references_from(
     count: usize,
     lookups: &[Lookup<'_>],
@@ -65,7 +61,6 @@ fn references_from(
 }
 
 /// Returns the arguments that are not marked.
-#[inline]
 fn unmarked_arguments<'a>(
     arguments: &[Entry<'a>],
     marks: &[bool],
@@ -81,7 +76,6 @@ fn unmarked_arguments<'a>(
 
 /// Adds the fault of a lookup: of a trait that does not exist, or of a name that no variable is
 /// captured for and that `indices` does not have, which it is then put into.
-#[inline]
 fn look_up_one<'a>(
     faults: &mut Vec<CallFault<'a>>,
     indices: &mut BTreeMap<&'a str, usize>,
@@ -102,7 +96,6 @@ fn look_up_one<'a>(
 }
 
 /// Adds the faults of lookups, one after the other.
-#[inline]
 fn look_up<'a>(
     faults: &mut Vec<CallFault<'a>>,
     indices: &mut BTreeMap<&'a str, usize>,
@@ -116,7 +109,6 @@ fn look_up<'a>(
 }
 
 /// Returns whether a name is missing.
-#[inline]
 fn misses_name(faults: &[CallFault<'_>]) -> bool {
     for fault in faults {
         if let CallFault::MissingName { .. } = fault {
@@ -127,7 +119,6 @@ fn misses_name(faults: &[CallFault<'_>]) -> bool {
 }
 
 /// Returns a map that has the names that are the positions of placeholders.
-#[inline]
 fn positions_of<'a>(lookups: &[Lookup<'a>]) -> Result<BTreeMap<&'a str, usize>, AllocError> {
     let mut names = BTreeMap::new();
     for lookup in lookups {
@@ -141,7 +132,6 @@ fn positions_of<'a>(lookups: &[Lookup<'a>]) -> Result<BTreeMap<&'a str, usize>, 
 }
 
 /// Returns whether an argument has no name, and is a variable whose name a map has.
-#[inline]
 fn is_redundant<'a>(positions: &BTreeMap<&'a str, usize>, entry: &Entry<'a>) -> bool {
     match (entry.argument.name, entry.argument.variable) {
         (None, Some(variable)) => index_of(positions, variable).is_some(),
@@ -150,7 +140,6 @@ fn is_redundant<'a>(positions: &BTreeMap<&'a str, usize>, entry: &Entry<'a>) -> 
 }
 
 /// Returns the indices of the redundant ones of arguments that no lookup means.
-#[inline]
 fn redundant_of<'a>(
     unused_entries: &[Entry<'a>],
     lookups: &[Lookup<'a>],
@@ -169,7 +158,6 @@ fn redundant_of<'a>(
 }
 
 /// Returns the indices of arguments.
-#[inline]
 pub(crate) fn indices_of(arguments: &[Entry<'_>]) -> Result<Vec<usize>, AllocError> {
     let mut indices = Vec::new();
     for entry in arguments {
@@ -179,7 +167,6 @@ pub(crate) fn indices_of(arguments: &[Entry<'_>]) -> Result<Vec<usize>, AllocErr
 }
 
 /// Adds the fault of arguments that no lookup means: of the redundant ones, or else of all.
-#[inline]
 fn push_unused_faults<'a>(
     faults: &mut Vec<CallFault<'a>>,
     unused_entries: &[Entry<'a>],
@@ -198,7 +185,6 @@ fn push_unused_faults<'a>(
 }
 
 /// Returns the fault of a lookup, if it means an argument with a name by its index.
-#[inline]
 fn by_index<'a>(arguments: &[Entry<'a>], lookup: &Lookup<'a>) -> Option<CallFault<'a>> {
     match *lookup {
         Lookup::Refer(reference, ArgRef::Index(n)) => match arguments.get(n) {
@@ -213,7 +199,6 @@ fn by_index<'a>(arguments: &[Entry<'a>], lookup: &Lookup<'a>) -> Option<CallFaul
 }
 
 /// Adds the faults of lookups that mean an argument with a name by its index.
-#[inline]
 fn push_index_faults<'a>(
     faults: &mut Vec<CallFault<'a>>,
     arguments: &[Entry<'a>],
@@ -228,7 +213,6 @@ fn push_index_faults<'a>(
 }
 
 /// Adds the fault of references by an index that is too large, if there are any.
-#[inline]
 fn push_missing_fault(
     faults: &mut Vec<CallFault<'_>>,
     references: Vec<InvalidReference>,
@@ -240,7 +224,6 @@ fn push_missing_fault(
 }
 
 /// Returns whether neither a name is missing, nor an argument, nor is one unused.
-#[inline]
 fn is_settled(
     faults: &[CallFault<'_>],
     references: &[InvalidReference],
@@ -251,7 +234,6 @@ fn is_settled(
 
 /// Adds what is wrong between the arguments that count, whose indices are below `count`, and
 /// lookups.
-#[inline]
 pub(crate) fn compare<'a>(
     faults: &mut Vec<CallFault<'a>>,
     captures_variables: bool,

@@ -7,7 +7,7 @@ use crate::proved::rustc_parse_format::Fault;
 use crate::shim::prelude::*;
 
 /// Which part of a placeholder refers to an argument.
-#[derive(Clone, Copy, Debug, PartialEq)]
+#[derive(Clone, Copy, Debug, PartialEq, Eq)]
 pub enum Part {
     /// Its position, as in `{0}`, `{name}` or `{}`.
     Position,
@@ -18,7 +18,7 @@ pub enum Part {
 }
 
 /// Where a placeholder refers to an argument.
-#[derive(Clone, Copy, Debug, PartialEq)]
+#[derive(Clone, Copy, Debug, PartialEq, Eq)]
 pub struct Reference {
     /// The index of the placeholder among the pieces of the format string.
     pub piece: usize,
@@ -27,7 +27,7 @@ pub struct Reference {
 }
 
 /// A reference by an index that is too large.
-#[derive(Clone, Copy, Debug, PartialEq)]
+#[derive(Clone, Copy, Debug, PartialEq, Eq)]
 pub struct InvalidReference {
     /// Where it is.
     pub reference: Reference,
@@ -36,6 +36,8 @@ pub struct InvalidReference {
 }
 
 /// A fault of a call. An argument is named by its index among all that are given.
+#[non_exhaustive]
+#[derive(Clone, Debug, Eq, PartialEq)]
 pub enum CallFault<'a> {
     /// An argument without a name stands after one with a name. No other fault follows.
     PositionalAfterNamed {

@@ -5,6 +5,7 @@
 
 use crate::proved::call_faults::arguments::FormatArgument;
 use crate::proved::call_faults::checker::CallReport;
+use crate::proved::call_faults::directives::hold_directives;
 use crate::proved::call_faults::faults::{CallFault, Part, Reference};
 use crate::proved::call_faults::labels::{have_names, is_last};
 use crate::proved::call_faults::notes::{are_missing, put_specifiers};
@@ -28,7 +29,6 @@ fn plain_edit(spot: Spot, text: String) -> CallEdit {
 }
 
 /// Returns a help with one edit.
-#[inline]
 fn single(text: String, spot: Spot, new: String) -> Result<CallHelp, AllocError> {
     let mut edits = Vec::new();
     edits.try_push(plain_edit(spot, new))?;
@@ -36,7 +36,6 @@ fn single(text: String, spot: Spot, new: String) -> Result<CallHelp, AllocError>
 }
 
 /// Adds this many placeholders.
-#[inline]
 fn put_placeholders(out: &mut String, count: usize) -> Result<(), AllocError> {
     let mut countdown = count;
     while countdown > 0 {
@@ -47,9 +46,8 @@ fn put_placeholders(out: &mut String, count: usize) -> Result<(), AllocError> {
 }
 
 /// Returns the help for so many unused arguments, or `None` if there is none.
-#[inline]
 fn unused_help(call: &CallReport<'_>, count: usize) -> Result<Option<CallHelp>, AllocError> {
-    if are_missing(&call.faults) || count != call.indices.len() {
+    if are_missing(&call.faults) || count != call.indices.len() || hold_directives(&call.pieces) {
         return Ok(None);
     }
     let message = "format specifiers use curly braces, consider adding ";
@@ -62,7 +60,6 @@ fn unused_help(call: &CallReport<'_>, count: usize) -> Result<Option<CallHelp>, 
 }
 
 /// Returns where the text is that is removed with an argument.
-#[inline]
 fn removed_spot(arguments: &[FormatArgument<'_>], index: usize) -> Spot {
     if is_last(arguments, index) {
         Spot::Value(index)
@@ -72,7 +69,6 @@ fn removed_spot(arguments: &[FormatArgument<'_>], index: usize) -> Spot {
 }
 
 /// Adds the edits that remove arguments.
-#[inline]
 fn push_removals(
     edits: &mut Vec<CallEdit>,
     arguments: &[FormatArgument<'_>],
@@ -89,7 +85,6 @@ fn push_removals(
 }
 
 /// Returns the help for redundant arguments, or `None` if there is none.
-#[inline]
 fn redundant_help(
     arguments: &[FormatArgument<'_>],
     redundant_indices: &[usize],
@@ -104,7 +99,6 @@ fn redundant_help(
 }
 
 /// Returns the text after a name in a part of a placeholder.
-#[inline]
 fn after_name(part: Part) -> &'static str {
     match part {
         Part::Position => "",
@@ -113,7 +107,6 @@ fn after_name(part: Part) -> &'static str {
 }
 
 /// Returns the name of an argument as a part of a placeholder has it.
-#[inline]
 fn name_in(part: Part, name: &str) -> Result<String, AllocError> {
     let mut text = String::made_from(name)?;
     text.try_push_str(after_name(part))?;
@@ -121,7 +114,6 @@ fn name_in(part: Part, name: &str) -> Result<String, AllocError> {
 }
 
 /// Returns the help for a use by index of an argument with a name.
-#[inline]
 fn by_index_help(
     call: &CallReport<'_>,
     reference: Reference,
@@ -135,7 +127,6 @@ fn by_index_help(
 }
 
 /// Returns the help that replaces a text.
-#[inline]
 fn replacement_help(spot: Spot, new: &str) -> Result<CallHelp, AllocError> {
     let mut text = String::made_from("did you mean `")?;
     text.try_push_str(new)?;
@@ -145,7 +136,6 @@ fn replacement_help(spot: Spot, new: &str) -> Result<CallHelp, AllocError> {
 }
 
 /// Returns how many of arguments stand before the first one with a name.
-#[inline]
 fn unnamed_count(arguments: &[FormatArgument<'_>]) -> usize {
     for (index, argument) in arguments.iter().enumerate() {
         if argument.name.is_some() {
@@ -156,7 +146,6 @@ fn unnamed_count(arguments: &[FormatArgument<'_>]) -> usize {
 }
 
 /// Returns where an argument without a name is added, if there are so many already.
-#[inline]
 fn added_spot(count: usize) -> Spot {
     if count == 0 {
         Spot::AfterLiteral
@@ -166,7 +155,6 @@ fn added_spot(count: usize) -> Spot {
 }
 
 /// Returns the help for an expression at this place of the string.
-#[inline]
 fn positional_help(
     arguments: &[FormatArgument<'_>],
     span: &Range<usize>,
@@ -190,7 +178,6 @@ fn positional_help(
 }
 
 /// Returns the help for `=` after an argument, or `None` unless one argument counts.
-#[inline]
 fn debug_help(indices: &[usize]) -> Result<Option<CallHelp>, AllocError> {
     let [index] = indices else {
         return Ok(None);
@@ -208,7 +195,6 @@ fn debug_help(indices: &[usize]) -> Result<Option<CallHelp>, AllocError> {
 }
 
 /// Returns the help for a fault of the string, or `None` if it has none that is no label.
-#[inline]
 fn text_help(call: &CallReport<'_>, fault: &Fault<'_>) -> Result<Option<CallHelp>, AllocError> {
     let error = fault.error()?;
     match &error.suggestion {
@@ -230,7 +216,6 @@ fn text_help(call: &CallReport<'_>, fault: &Fault<'_>) -> Result<Option<CallHelp
 impl<'a> CallReport<'a> {
     /// Returns the suggestion of rustc for one of the faults, or `None` if there is none or it is
     /// in a label. The suggestions for the directives of other languages are left out.
-    #[inline]
     pub(crate) fn help(&self, fault: &CallFault<'a>) -> Result<Option<CallHelp>, AllocError> {
         match fault {
             CallFault::PositionalAfterNamed { .. }

@@ -25,7 +25,6 @@ fn named_text() -> &'static str {
 }
 
 /// Adds the labels of arguments that have a name.
-#[inline]
 fn push_named(labels: &mut Vec<CallLabel>, named_arguments: &[usize]) -> Result<(), AllocError> {
     let mut rest = named_arguments;
     while let Some((index, others)) = rest.split_first() {
@@ -36,7 +35,6 @@ fn push_named(labels: &mut Vec<CallLabel>, named_arguments: &[usize]) -> Result<
 }
 
 /// Adds the label of a second range of an error.
-#[inline]
 fn push_second_label(
     labels: &mut Vec<CallLabel>,
     error: &ParseError,
@@ -52,7 +50,6 @@ fn push_second_label(
 }
 
 /// Adds a help that is drawn as a label.
-#[inline]
 fn push_inline_help(labels: &mut Vec<CallLabel>, error: &ParseError) -> Result<(), AllocError> {
     match &error.suggestion {
         Suggestion::RemoveRawIdent(span) => {
@@ -71,7 +68,6 @@ fn push_inline_help(labels: &mut Vec<CallLabel>, error: &ParseError) -> Result<(
 }
 
 /// Adds the second label of an error of the string.
-#[inline]
 fn push_second(labels: &mut Vec<CallLabel>, error: &ParseError) -> Result<(), AllocError> {
     match &error.secondary_label {
         None => push_inline_help(labels, error)?,
@@ -81,7 +77,6 @@ fn push_second(labels: &mut Vec<CallLabel>, error: &ParseError) -> Result<(), Al
 }
 
 /// Adds the labels of a fault of the string.
-#[inline]
 fn push_text(labels: &mut Vec<CallLabel>, fault: &Fault<'_>) -> Result<(), AllocError> {
     let error = fault.error()?;
     let mut text = String::made_from(&error.label)?;
@@ -92,7 +87,6 @@ fn push_text(labels: &mut Vec<CallLabel>, fault: &Fault<'_>) -> Result<(), Alloc
 }
 
 /// Adds the labels of arguments that are not used.
-#[inline]
 fn push_unused(
     labels: &mut Vec<CallLabel>,
     arguments: &[FormatArgument<'_>],
@@ -113,7 +107,6 @@ fn single_text() -> &'static str {
 }
 
 /// Adds the labels of an argument that is not used, and that of the literal.
-#[inline]
 fn push_one_unused(
     labels: &mut Vec<CallLabel>,
     arguments: &[FormatArgument<'_>],
@@ -131,7 +124,6 @@ fn several_text() -> &'static str {
 }
 
 /// Adds the labels of several arguments that are not used, and that of the literal.
-#[inline]
 fn push_many_unused(
     labels: &mut Vec<CallLabel>,
     arguments: &[FormatArgument<'_>],
@@ -143,7 +135,6 @@ fn push_many_unused(
 }
 
 /// Adds the labels of arguments that are not used, and that of the literal.
-#[inline]
 fn push_unused_and_literal(
     labels: &mut Vec<CallLabel>,
     arguments: &[FormatArgument<'_>],
@@ -163,7 +154,6 @@ pub(crate) fn is_last(arguments: &[FormatArgument<'_>], index: usize) -> bool {
 }
 
 /// Returns whether one of these arguments has a name.
-#[inline]
 pub(crate) fn have_names(arguments: &[FormatArgument<'_>]) -> bool {
     for first in arguments {
         if first.name.is_some() {
@@ -180,7 +170,6 @@ fn removal_text() -> &'static str {
 }
 
 /// Adds the labels of an argument that is left out, which is not the last one.
-#[inline]
 fn push_removal_up_to_next(labels: &mut Vec<CallLabel>, index: usize) -> Result<(), AllocError> {
     push_secondary(labels, Spot::ValueUpToNext(index), removal_text())?;
     push_plain(labels, Spot::Value(index))?;
@@ -188,7 +177,6 @@ fn push_removal_up_to_next(labels: &mut Vec<CallLabel>, index: usize) -> Result<
 }
 
 /// Adds the labels of an argument that is left out.
-#[inline]
 fn push_removal(
     labels: &mut Vec<CallLabel>,
     arguments: &[FormatArgument<'_>],
@@ -203,7 +191,6 @@ fn push_removal(
 }
 
 /// Adds labels without a text of the values of redundant arguments.
-#[inline]
 fn push_bare(labels: &mut Vec<CallLabel>, indices: &[usize]) -> Result<(), AllocError> {
     let mut rest = indices;
     while let Some((index, others)) = rest.split_first() {
@@ -214,7 +201,6 @@ fn push_bare(labels: &mut Vec<CallLabel>, indices: &[usize]) -> Result<(), Alloc
 }
 
 /// Adds the labels of redundant arguments.
-#[inline]
 fn push_redundant(
     labels: &mut Vec<CallLabel>,
     arguments: &[FormatArgument<'_>],
@@ -235,7 +221,6 @@ fn by_index_text() -> &'static str {
 }
 
 /// Returns the label of the use by index of an argument with a name.
-#[inline]
 fn use_text(name: &str) -> Result<String, AllocError> {
     let mut text = String::new();
     let front = "this formatting argument uses named argument ";
@@ -244,7 +229,6 @@ fn use_text(name: &str) -> Result<String, AllocError> {
 }
 
 /// Adds the labels of the use by index of an argument with a name.
-#[inline]
 fn push_by_index(
     labels: &mut Vec<CallLabel>,
     call: &CallReport<'_>,
@@ -263,7 +247,6 @@ impl<'a> CallReport<'a> {
     /// Returns the labels of one of the faults, as rustc has them. The primary label that begins
     /// first in the source is where rustc says that the fault is. A fault of the string has the
     /// labels of its error.
-    #[inline]
     pub(crate) fn labels(&self, fault: &CallFault<'a>) -> Result<Vec<CallLabel>, AllocError> {
         let mut labels = Vec::new();
         match fault {

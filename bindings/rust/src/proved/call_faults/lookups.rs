@@ -27,7 +27,6 @@ pub(crate) enum Lookup<'a> {
 }
 
 /// Returns the argument that a position wants.
-#[inline]
 fn arg_ref_of<'a>(position: &Position<'a>) -> ArgRef<'a> {
     match position {
         Position::ArgumentImplicitlyIs(n) | Position::ArgumentIs(n) => ArgRef::Index(*n),
@@ -36,7 +35,6 @@ fn arg_ref_of<'a>(position: &Position<'a>) -> ArgRef<'a> {
 }
 
 /// Adds the reference of a precision or of a width, if it is one.
-#[inline]
 fn push_count<'a>(
     list: &mut Vec<Lookup<'a>>,
     reference: Reference,
@@ -55,13 +53,11 @@ fn push_count<'a>(
 }
 
 /// Returns whether a character is a type that names a trait.
-#[inline]
 fn names_trait(c: char) -> bool {
     matches!(c, '?' | 'o' | 'x' | 'X' | 'p' | 'b' | 'e' | 'E')
 }
 
 /// Returns whether the type of a format specification names a trait.
-#[inline]
 fn is_known(ty: &str) -> bool {
     let mut characters = ty.chars();
     match characters.next() {
@@ -71,7 +67,6 @@ fn is_known(ty: &str) -> bool {
 }
 
 /// Adds the lookups for a placeholder.
-#[inline]
 fn push_argument<'a>(
     list: &mut Vec<Lookup<'a>>,
     piece: usize,
@@ -94,7 +89,6 @@ fn push_argument<'a>(
 }
 
 /// Adds the lookups for a piece.
-#[inline]
 fn push_piece<'a>(
     list: &mut Vec<Lookup<'a>>,
     index: usize,
@@ -107,7 +101,6 @@ fn push_piece<'a>(
 }
 
 /// Returns the lookups for pieces.
-#[inline]
 pub(crate) fn lookups_of<'a>(pieces: &[Piece<'a>]) -> Result<Vec<Lookup<'a>>, AllocError> {
     let mut list = Vec::new();
     for (index, piece) in pieces.iter().enumerate() {

@@ -17,7 +17,6 @@ use crate::shim::prelude::*;
 use core::ops::Range;
 
 /// Adds the labels of references by an index that is too large.
-#[inline]
 pub(crate) fn push_missing(
     labels: &mut Vec<CallLabel>,
     pieces: &[Piece<'_>],
@@ -32,7 +31,6 @@ pub(crate) fn push_missing(
 }
 
 /// Returns the index of the argument that a precision takes by `*`, or `None` if it takes none.
-#[inline]
 pub(crate) fn star_of(count: &Count<'_>) -> Option<usize> {
     match count {
         Count::CountIsStar(index) => Some(*index),
@@ -50,7 +48,6 @@ fn is_next(position: &Position<'_>) -> bool {
 }
 
 /// Adds the label of a placeholder that takes the next argument, if the piece is one.
-#[inline]
 fn push_next(
     labels: &mut Vec<CallLabel>,
     piece: &Piece<'_>,
@@ -66,7 +63,6 @@ fn push_next(
 }
 
 /// Adds the labels of those of pieces that take the next argument.
-#[inline]
 fn push_nexts(
     labels: &mut Vec<CallLabel>,
     pieces: &[Piece<'_>],
@@ -81,7 +77,6 @@ fn push_nexts(
 }
 
 /// Adds labels without a text of the values of arguments.
-#[inline]
 fn push_values(labels: &mut Vec<CallLabel>, indices: &[usize]) -> Result<(), AllocError> {
     let mut rest = indices;
     while let Some((index, others)) = rest.split_first() {
@@ -92,7 +87,6 @@ fn push_values(labels: &mut Vec<CallLabel>, indices: &[usize]) -> Result<(), All
 }
 
 /// Adds how many arguments are expected.
-#[inline]
 fn put_expected(out: &mut String, count: usize) -> Result<(), AllocError> {
     if count == 1 {
         out.try_push_str("is 1 argument")?;
@@ -106,7 +100,6 @@ fn put_expected(out: &mut String, count: usize) -> Result<(), AllocError> {
 
 /// Adds the text of a precision that takes the argument `index` by `*`, where the
 /// placeholders take `total` in all.
-#[inline]
 fn put_star(out: &mut String, index: usize, total: usize) -> Result<(), AllocError> {
     out.try_push_str("this precision flag adds an extra required argument at position ")?;
     put_number(out, index)?;
@@ -117,7 +110,6 @@ fn put_star(out: &mut String, index: usize, total: usize) -> Result<(), AllocErr
 }
 
 /// Adds the label of a precision that takes an argument by `*`, if the piece has one.
-#[inline]
 fn push_star(
     labels: &mut Vec<CallLabel>,
     total: usize,
@@ -140,7 +132,6 @@ fn push_star(
 }
 
 /// Adds the labels of the precisions of pieces that take arguments by `*`.
-#[inline]
 fn push_stars(
     labels: &mut Vec<CallLabel>,
     total: usize,
@@ -153,7 +144,6 @@ fn push_stars(
 }
 
 /// Returns the labels of too few arguments, where none is referred to by a number that is written.
-#[inline]
 pub(crate) fn few_labels(call: &CallReport<'_>) -> Result<Vec<CallLabel>, AllocError> {
     let mut labels = Vec::new();
     push_values(&mut labels, &call.indices)?;

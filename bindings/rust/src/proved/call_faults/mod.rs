@@ -6,6 +6,7 @@
 pub(crate) mod arguments;
 pub(crate) mod checker;
 pub(crate) mod comparison;
+pub(crate) mod directives;
 pub(crate) mod faults;
 pub(crate) mod helps;
 pub(crate) mod labels;

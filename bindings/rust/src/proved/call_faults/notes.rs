@@ -17,7 +17,6 @@ use crate::shim::prelude::*;
 use alloc::collections::BTreeMap;
 
 /// Adds a note that shows no place.
-#[inline]
 fn push_plain(notes: &mut Vec<CallNote>, text: &str) -> Result<(), AllocError> {
     let text = String::made_from(text)?;
     let spots = Vec::new();
@@ -35,7 +34,6 @@ fn push_if(notes: &mut Vec<CallNote>, has_note: bool, text: &str) -> Result<(), 
 }
 
 /// Adds the note of a fault of the string.
-#[inline]
 fn push_text(notes: &mut Vec<CallNote>, fault: &Fault<'_>) -> Result<(), AllocError> {
     let error = fault.error()?;
     if let Some(note) = &error.note {
@@ -45,7 +43,6 @@ fn push_text(notes: &mut Vec<CallNote>, fault: &Fault<'_>) -> Result<(), AllocEr
 }
 
 /// Returns the first note of a name that no argument has.
-#[inline]
 fn capture_text(name: &str) -> Result<String, AllocError> {
     let mut text = String::new();
     let front = "did you intend to capture a variable ";
@@ -60,7 +57,6 @@ fn ambiguity_text() -> &'static str {
 }
 
 /// Adds the notes of a name that no argument has.
-#[inline]
 fn push_name(notes: &mut Vec<CallNote>, name: &str) -> Result<(), AllocError> {
     let text = capture_text(name)?;
     push_plain(notes, &text)?;
@@ -96,7 +92,6 @@ fn is_aligned(align: Alignment) -> bool {
 }
 
 /// Returns whether a specification has more than a trait.
-#[inline]
 fn has_flags(format: &FormatSpec<'_>) -> bool {
     ((format.fill.is_some() || is_aligned(format.align))
         || (format.sign.is_some() || format.alternate))
@@ -105,7 +100,6 @@ fn has_flags(format: &FormatSpec<'_>) -> bool {
 }
 
 /// Returns whether a piece has more than a trait.
-#[inline]
 fn is_flagged(piece: &Piece<'_>) -> bool {
     match piece {
         Piece::Lit(_) => false,
@@ -125,7 +119,6 @@ fn are_flagged(pieces: &[Piece<'_>]) -> bool {
 }
 
 /// Returns whether a piece takes an argument by `*`.
-#[inline]
 fn has_star(piece: &Piece<'_>) -> bool {
     match piece {
         Piece::Lit(_) => false,
@@ -157,7 +150,6 @@ fn flags_note() -> &'static str {
 }
 
 /// Adds the notes of missing arguments.
-#[inline]
 fn push_missing(notes: &mut Vec<CallNote>, pieces: &[Piece<'_>]) -> Result<(), AllocError> {
     let is_counted = have_numbers(pieces) || have_stars(pieces);
     push_if(notes, is_counted, count_note())?;
@@ -166,7 +158,6 @@ fn push_missing(notes: &mut Vec<CallNote>, pieces: &[Piece<'_>]) -> Result<(), A
 }
 
 /// Returns whether one of these faults is that arguments are missing.
-#[inline]
 pub(crate) fn are_missing(faults: &[CallFault<'_>]) -> bool {
     for fault in faults {
         if let CallFault::MissingArguments(_) = fault {
@@ -177,7 +168,6 @@ pub(crate) fn are_missing(faults: &[CallFault<'_>]) -> bool {
 }
 
 /// Adds so many placeholders, in words.
-#[inline]
 pub(crate) fn put_specifiers(out: &mut String, count: usize) -> Result<(), AllocError> {
     if count == 1 {
         out.try_push_str("a format specifier")?;
@@ -189,7 +179,6 @@ pub(crate) fn put_specifiers(out: &mut String, count: usize) -> Result<(), Alloc
 }
 
 /// Adds the note of so many unused arguments, if there is one.
-#[inline]
 fn push_unused(
     notes: &mut Vec<CallNote>,
     call: &CallReport<'_>,
@@ -205,7 +194,6 @@ fn push_unused(
 }
 
 /// Returns the variable that an argument is, or `None` if it is no variable.
-#[inline]
 fn variable_of<'a>(arguments: &[FormatArgument<'a>], index: usize) -> Option<&'a str> {
     match arguments.get(index) {
         Some(argument) => argument.variable,
@@ -214,7 +202,6 @@ fn variable_of<'a>(arguments: &[FormatArgument<'a>], index: usize) -> Option<&'a
 }
 
 /// Returns the variables that arguments are, as the names that a map has.
-#[inline]
 fn variables_of<'a>(
     arguments: &[FormatArgument<'a>],
     indices: &[usize],
@@ -229,7 +216,6 @@ fn variables_of<'a>(
 }
 
 /// Returns whether a position is a name that a map has.
-#[inline]
 fn is_name<'a>(names: &BTreeMap<&'a str, usize>, position: &Position<'a>) -> bool {
     match position {
         Position::ArgumentNamed(name) => index_of(names, name).is_some(),
@@ -238,7 +224,6 @@ fn is_name<'a>(names: &BTreeMap<&'a str, usize>, position: &Position<'a>) -> boo
 }
 
 /// Adds the place of the position of a piece, if that is a name that a map has.
-#[inline]
 fn push_position<'a>(
     spots: &mut Vec<Spot>,
     names: &BTreeMap<&'a str, usize>,
@@ -253,7 +238,6 @@ fn push_position<'a>(
 }
 
 /// Returns the places of the positions of pieces that are names which a map has.
-#[inline]
 fn named_positions<'a>(
     names: &BTreeMap<&'a str, usize>,
     pieces: &[Piece<'a>],
@@ -276,7 +260,6 @@ fn redundant_text(count: usize) -> &'static str {
 }
 
 /// Adds the note of redundant arguments.
-#[inline]
 fn push_redundant<'a>(
     notes: &mut Vec<CallNote>,
     call: &CallReport<'a>,
@@ -292,7 +275,6 @@ fn push_redundant<'a>(
 impl<'a> CallReport<'a> {
     /// Returns the notes of one of the faults, as rustc has them, but for the note of a warning
     /// which says that it is on by default. A fault of the string has the note of its error.
-    #[inline]
     pub(crate) fn notes(&self, fault: &CallFault<'a>) -> Result<Vec<CallNote>, AllocError> {
         let mut notes = Vec::new();
         match fault {

@@ -44,7 +44,6 @@ pub struct CallHelp {
 }
 
 /// Adds a label of a place that the fault is about.
-#[inline]
 pub(crate) fn push_primary(
     labels: &mut Vec<CallLabel>,
     spot: Spot,
@@ -67,7 +66,6 @@ pub(crate) fn push_plain(labels: &mut Vec<CallLabel>, spot: Spot) -> Result<(), 
 }
 
 /// Adds a label of another place.
-#[inline]
 pub(crate) fn push_secondary(
     labels: &mut Vec<CallLabel>,
     spot: Spot,
@@ -92,7 +90,6 @@ pub(crate) fn bytes_at(span: &Range<usize>) -> Spot {
 }
 
 /// Returns a range of the literal, or the whole literal if there is none.
-#[inline]
 pub(crate) fn spot_of(span: &Option<Range<usize>>) -> Spot {
     match span {
         None => Spot::Literal,
@@ -101,7 +98,6 @@ pub(crate) fn spot_of(span: &Option<Range<usize>>) -> Spot {
 }
 
 /// Returns the placeholder with an index among pieces, or `None` if that is text or after the end.
-#[inline]
 fn placeholder_at<'p, 'a>(pieces: &'p [Piece<'a>], index: usize) -> Option<&'p Argument<'a>> {
     match pieces.get(index) {
         Some(Piece::NextArgument(argument)) => Some(argument),
@@ -110,7 +106,6 @@ fn placeholder_at<'p, 'a>(pieces: &'p [Piece<'a>], index: usize) -> Option<&'p A
 }
 
 /// Returns where a part of a placeholder is.
-#[inline]
 fn part_spot(argument: &Argument<'_>, part: Part) -> Spot {
     match part {
         Part::Position => bytes_at(&argument.position_span),
@@ -120,7 +115,6 @@ fn part_spot(argument: &Argument<'_>, part: Part) -> Spot {
 }
 
 /// Returns where a reference is.
-#[inline]
 pub(crate) fn reference_spot(pieces: &[Piece<'_>], reference: Reference) -> Spot {
     match placeholder_at(pieces, reference.piece) {
         None => Spot::Literal,
@@ -129,7 +123,6 @@ pub(crate) fn reference_spot(pieces: &[Piece<'_>], reference: Reference) -> Spot
 }
 
 /// Returns where the name of a width or a precision is.
-#[inline]
 fn count_spot(count: &Count<'_>) -> Spot {
     match count {
         Count::CountIsName(_, span) => bytes_at(span),
@@ -141,7 +134,6 @@ fn count_spot(count: &Count<'_>) -> Spot {
 }
 
 /// Returns where the name in a part of a placeholder is.
-#[inline]
 fn name_spot(argument: &Argument<'_>, part: Part) -> Spot {
     match part {
         Part::Position => bytes_at(&argument.position_span),
@@ -151,7 +143,6 @@ fn name_spot(argument: &Argument<'_>, part: Part) -> Spot {
 }
 
 /// Returns where the name of a reference is.
-#[inline]
 pub(crate) fn named_spot(pieces: &[Piece<'_>], reference: Reference) -> Spot {
     match placeholder_at(pieces, reference.piece) {
         None => Spot::Literal,
@@ -160,7 +151,6 @@ pub(crate) fn named_spot(pieces: &[Piece<'_>], reference: Reference) -> Spot {
 }
 
 /// Returns where the type of the placeholder with an index is.
-#[inline]
 pub(crate) fn type_spot(pieces: &[Piece<'_>], index: usize) -> Spot {
     match placeholder_at(pieces, index) {
         None => Spot::Literal,
@@ -169,7 +159,6 @@ pub(crate) fn type_spot(pieces: &[Piece<'_>], index: usize) -> Spot {
 }
 
 /// Returns the places of the placeholders after a piece, from those from that piece on.
-#[inline]
 pub(crate) fn rest_after<'p>(piece: &Piece<'_>, places: &'p [Range<usize>]) -> &'p [Range<usize>] {
     match piece {
         Piece::Lit(_) => places,
@@ -181,7 +170,6 @@ pub(crate) fn rest_after<'p>(piece: &Piece<'_>, places: &'p [Range<usize>]) -> &
 }
 
 /// Returns the number of placeholders up to a piece, where so many stand before it.
-#[inline]
 fn count_with(count: usize, piece: &Piece<'_>) -> usize {
     match piece {
         Piece::Lit(_) => count,
@@ -190,7 +178,6 @@ fn count_with(count: usize, piece: &Piece<'_>) -> usize {
 }
 
 /// Returns of each of these pieces how many placeholders stand before it.
-#[inline]
 pub(crate) fn counts_before(pieces: &[Piece<'_>]) -> Result<Vec<usize>, AllocError> {
     let mut counts = Vec::made_for(pieces.len())?;
     let mut count = 0;
@@ -202,7 +189,6 @@ pub(crate) fn counts_before(pieces: &[Piece<'_>]) -> Result<Vec<usize>, AllocErr
 }
 
 /// Returns the first one of places, or the whole literal if there is none.
-#[inline]
 pub(crate) fn first_spot(places: &[Range<usize>]) -> Spot {
     match places.first() {
         None => Spot::Literal,
@@ -212,7 +198,6 @@ pub(crate) fn first_spot(places: &[Range<usize>]) -> Spot {
 
 /// Returns the place of the placeholder with an index among pieces, before each of which so many
 /// stand, or the whole literal if it has none.
-#[inline]
 fn place_spot(counts: &[usize], places: &[Range<usize>], index: usize) -> Spot {
     let Some(count) = counts.get(index) else {
         return Spot::Literal;
@@ -224,7 +209,6 @@ fn place_spot(counts: &[usize], places: &[Range<usize>], index: usize) -> Spot {
 }
 
 /// Returns a range without its first byte, which is the dot of a precision.
-#[inline]
 fn after_dot(span: &Option<Range<usize>>) -> Spot {
     match span {
         None => Spot::Literal,
@@ -237,7 +221,6 @@ fn after_dot(span: &Option<Range<usize>>) -> Spot {
 
 /// Returns where a use by index is shown: the whole placeholder, or the width or the precision
 /// without its dot.
-#[inline]
 pub(crate) fn use_spot(
     pieces: &[Piece<'_>],
     counts: &[usize],
@@ -256,7 +239,6 @@ pub(crate) fn use_spot(
 
 /// Returns where a reference has the index of its argument: its position, or its width or its
 /// precision without its dot.
-#[inline]
 pub(crate) fn index_spot(pieces: &[Piece<'_>], reference: Reference) -> Spot {
     match placeholder_at(pieces, reference.piece) {
         None => Spot::Literal,

@@ -16,7 +16,6 @@ use crate::shim::prelude::*;
 impl CallFault<'_> {
     /// Returns the id of the fault in kebab case, as `unused-argument`: the same for all faults of
     /// a kind. A fault of the format string has the id of its [`Fault`]. Does not allocate.
-    #[inline]
     pub fn id(&self) -> &'static str {
         match self {
             CallFault::PositionalAfterNamed { .. } => "positional-after-named",
@@ -33,7 +32,6 @@ impl CallFault<'_> {
 }
 
 /// Adds a number in decimal digits.
-#[inline]
 pub(crate) fn put_number(out: &mut String, number: usize) -> Result<(), AllocError> {
     let mut digits = Buffer::new();
     out.try_push_str(digits.format(number))?;
@@ -41,7 +39,6 @@ pub(crate) fn put_number(out: &mut String, number: usize) -> Result<(), AllocErr
 }
 
 /// Adds how many arguments are given.
-#[inline]
 fn put_count(out: &mut String, count: usize) -> Result<(), AllocError> {
     if count == 0 {
         out.try_push_str("no arguments were given")?;
@@ -58,7 +55,6 @@ fn put_count(out: &mut String, count: usize) -> Result<(), AllocError> {
 }
 
 /// Adds a noun, in the plural unless there is one.
-#[inline]
 pub(crate) fn put_noun(out: &mut String, noun: &str, count: usize) -> Result<(), AllocError> {
     out.try_push_str(noun)?;
     if count != 1 {
@@ -68,7 +64,6 @@ pub(crate) fn put_noun(out: &mut String, noun: &str, count: usize) -> Result<(),
 }
 
 /// Adds the text between a number and those after it.
-#[inline]
 fn put_separator(out: &mut String, others: &[usize]) -> Result<(), AllocError> {
     match others {
         [] => {}
@@ -79,7 +74,6 @@ fn put_separator(out: &mut String, others: &[usize]) -> Result<(), AllocError> {
 }
 
 /// Adds numbers one after the other.
-#[inline]
 fn put_numbers(out: &mut String, numbers: &[usize]) -> Result<(), AllocError> {
     let mut rest = numbers;
     while let Some((first, others)) = rest.split_first() {
@@ -91,7 +85,6 @@ fn put_numbers(out: &mut String, numbers: &[usize]) -> Result<(), AllocError> {
 }
 
 /// Adds a name between backquotes.
-#[inline]
 fn put_quoted(out: &mut String, name: &str) -> Result<(), AllocError> {
     out.try_push('`')?;
     out.try_push_str(name)?;
@@ -100,7 +93,6 @@ fn put_quoted(out: &mut String, name: &str) -> Result<(), AllocError> {
 }
 
 /// Adds a text and a name between backquotes.
-#[inline]
 fn put_named(out: &mut String, text: &str, name: &str) -> Result<(), AllocError> {
     out.try_push_str(text)?;
     put_quoted(out, name)?;
@@ -108,7 +100,6 @@ fn put_named(out: &mut String, text: &str, name: &str) -> Result<(), AllocError>
 }
 
 /// Adds a name between backquotes, between two texts.
-#[inline]
 pub(crate) fn put_name_between(
     out: &mut String,
     prefix: &str,
@@ -133,7 +124,6 @@ fn is_number(position: &Position<'_>) -> bool {
 }
 
 /// Returns whether a piece refers to an argument by a number that is written.
-#[inline]
 fn has_number(piece: &Piece<'_>) -> bool {
     match piece {
         Piece::Lit(_) => false,
@@ -157,7 +147,6 @@ pub(crate) fn have_numbers(pieces: &[Piece<'_>]) -> bool {
 }
 
 /// Adds the title of numbers that are too large, where `count` arguments are given.
-#[inline]
 fn put_numbers_title(out: &mut String, numbers: &[usize], count: usize) -> Result<(), AllocError> {
     out.try_push_str("invalid reference to positional ")?;
     put_noun(out, "argument", numbers.len())?;
@@ -170,7 +159,6 @@ fn put_numbers_title(out: &mut String, numbers: &[usize], count: usize) -> Resul
 }
 
 /// Adds the title of too few arguments, where `count` are given and the placeholders take `total`.
-#[inline]
 fn put_few_title(out: &mut String, total: usize, count: usize) -> Result<(), AllocError> {
     put_number(out, total)?;
     put_noun(out, " positional argument", total)?;
@@ -180,7 +168,6 @@ fn put_few_title(out: &mut String, total: usize, count: usize) -> Result<(), All
 }
 
 /// Returns the name of an argument, or an empty text if it has none.
-#[inline]
 pub(crate) fn name_of<'a>(arguments: &[FormatArgument<'a>], index: usize) -> &'a str {
     match arguments.get(index) {
         Some(argument) => match argument.name {
@@ -192,7 +179,6 @@ pub(crate) fn name_of<'a>(arguments: &[FormatArgument<'a>], index: usize) -> &'a
 }
 
 /// Returns whether an argument has a name.
-#[inline]
 fn is_named(arguments: &[FormatArgument<'_>], index: usize) -> bool {
     match arguments.get(index) {
         Some(argument) => argument.name.is_some(),
@@ -211,7 +197,6 @@ pub(crate) fn never_used(arguments: &[FormatArgument<'_>], index: usize) -> &'st
 }
 
 /// Returns the title of arguments that are not used.
-#[inline]
 fn unused_title(arguments: &[FormatArgument<'_>], unused_indices: &[usize]) -> &'static str {
     match unused_indices {
         [index] => never_used(arguments, *index),
@@ -220,7 +205,6 @@ fn unused_title(arguments: &[FormatArgument<'_>], unused_indices: &[usize]) -> &
 }
 
 /// Adds the title of a fault of the format string.
-#[inline]
 fn put_text_title(out: &mut String, fault: &Fault<'_>) -> Result<(), AllocError> {
     let error = fault.error()?;
     out.try_push_str("invalid format string: ")?;
@@ -229,7 +213,6 @@ fn put_text_title(out: &mut String, fault: &Fault<'_>) -> Result<(), AllocError>
 }
 
 /// Adds the title of missing arguments.
-#[inline]
 fn put_missing(out: &mut String, call: &CallReport<'_>) -> Result<(), AllocError> {
     let count = call.indices.len();
     if have_numbers(&call.pieces) {
@@ -243,7 +226,6 @@ fn put_missing(out: &mut String, call: &CallReport<'_>) -> Result<(), AllocError
 
 impl<'a> CallReport<'a> {
     /// Adds the title of one of the faults to the end of `out`, as rustc has it.
-    #[inline]
     pub(crate) fn put_title(
         &self,
         out: &mut String,

@@ -22,7 +22,6 @@ pub enum ExpectedTokens {
 }
 
 /// Returns whether these tokens are a string literal, which may have a suffix, and others after it.
-#[inline]
 pub fn has_more(tokens: &[Token<'_>]) -> bool {
     match tokens.first() {
         Some(first) => {
@@ -34,7 +33,6 @@ pub fn has_more(tokens: &[Token<'_>]) -> bool {
 
 /// Returns whether it is not known what rustc expects after an operand, where this token stands in
 /// the argument.
-#[inline]
 fn is_unknown(token: &Token<'_>) -> bool {
     is_control(token.text)
         || is_modifier(token.text)
@@ -55,7 +53,6 @@ pub fn are_unknown(tokens: &[Token<'_>]) -> bool {
 }
 
 /// Returns whether the token is a period.
-#[inline]
 fn is_period(token: Option<Token<'_>>) -> bool {
     match token {
         Some(token) => is_mark_of(&token, b'.'),
@@ -64,7 +61,6 @@ fn is_period(token: Option<Token<'_>>) -> bool {
 }
 
 /// Returns what rustc expects after an operand, from its last three tokens.
-#[inline]
 fn expected_by(
     previous: Option<Token<'_>>,
     second: Option<Token<'_>>,
@@ -85,7 +81,6 @@ fn expected_by(
 }
 
 /// Returns what rustc expects after the operand that ends before the token with an index.
-#[inline]
 pub fn expected_at(tokens: &[Token<'_>], index: usize) -> ExpectedTokens {
     let last = token_at(tokens, index.saturating_sub(1));
     let second = token_at(tokens, index.saturating_sub(2));

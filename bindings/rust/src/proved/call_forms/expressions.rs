@@ -9,7 +9,6 @@ use crate::proved::rust_tokens::Kind;
 use crate::proved::rust_trees::{Delimiter, Side, Source, Token};
 
 /// Returns the tokens of an argument.
-#[inline]
 pub fn tokens_of<'s, 'a>(tokens: &'s [Token<'a>], argument: &Argument) -> &'s [Token<'a>] {
     let rest = &tokens[argument.start.min(tokens.len())..];
     let count = argument.end.saturating_sub(argument.start);
@@ -17,7 +16,6 @@ pub fn tokens_of<'s, 'a>(tokens: &'s [Token<'a>], argument: &Argument) -> &'s [T
 }
 
 /// Returns whether tokens of this kind are literals.
-#[inline]
 fn is_literal(kind: Kind) -> bool {
     matches!(
         kind,
@@ -38,7 +36,6 @@ fn is_literal(kind: Kind) -> bool {
 }
 
 /// Returns whether a token is an operand: a word that is no keyword, or a literal.
-#[inline]
 pub fn is_operand(token: &Token<'_>) -> bool {
     match token.kind {
         Kind::RawIdent => true,
@@ -51,7 +48,6 @@ pub fn is_operand(token: &Token<'_>) -> bool {
 
 /// Returns the number of delimiters that are open after a token, of which there are `depth` before
 /// it.
-#[inline]
 fn depth_after(depth: usize, token: &Token<'_>) -> usize {
     match token.side() {
         Side::Opens(_) => depth + 1,
@@ -74,14 +70,12 @@ fn closes_parentheses(token: &Token<'_>) -> bool {
 
 /// Returns whether an operand outside delimiters ends with a token, before which `depth` are open:
 /// the token is one, or closes parentheses.
-#[inline]
 fn ends_operand(depth: usize, token: &Token<'_>) -> bool {
     depth == 0 && is_operand(token) || depth == 1 && closes_parentheses(token)
 }
 
 /// Returns whether an operand ends with the pair of delimiters that the token with an index closes,
 /// before which `depth` are open.
-#[inline]
 fn ends_pair(depth: usize, tokens: &[Token<'_>], close: usize) -> bool {
     match token_at(tokens, close) {
         Some(token) => depth == 0 && closes_parentheses(&token),
@@ -91,7 +85,6 @@ fn ends_pair(depth: usize, tokens: &[Token<'_>], close: usize) -> bool {
 
 /// Returns the token before another one that closes the pair that a token opens, or `None` if it
 /// opens none.
-#[inline]
 fn closing_before(
     source: &Source<'_>,
     index: usize,
@@ -109,7 +102,6 @@ fn closing_before(
 
 /// Returns the index in an argument of its first operand outside delimiters that stands right after
 /// another one, or `None` if there is none. Pairs of delimiters are passed at once.
-#[inline]
 fn next_operand(source: &Source<'_>, argument: &Argument) -> Option<usize> {
     if argument.end.saturating_sub(argument.start) < 2 {
         return None;
@@ -142,7 +134,6 @@ fn next_operand(source: &Source<'_>, argument: &Argument) -> Option<usize> {
 
 /// Returns the index in an argument of its first operand that stands right after another one, or
 /// `None` if there is none or a variable of a macro stands there.
-#[inline]
 pub fn extra_operand(part: &Part<'_>, argument: &Argument) -> Option<usize> {
     if part.has_variable(argument) {
         return None;
@@ -151,7 +142,6 @@ pub fn extra_operand(part: &Part<'_>, argument: &Argument) -> Option<usize> {
 }
 
 /// Returns whether a token may stand in a path or in the access to a field.
-#[inline]
 fn is_path(token: &Token<'_>) -> bool {
     is_operand(token) || is_mark_of(token, b'.') || is_mark_of(token, b':')
 }
@@ -168,7 +158,6 @@ pub fn are_path(tokens: &[Token<'_>]) -> bool {
 }
 
 /// Returns whether a variable of a macro stands in one of these arguments.
-#[inline]
 pub fn have_variables(part: &Part<'_>, arguments: &[Argument]) -> bool {
     for argument in arguments {
         if part.has_variable(argument) {
@@ -179,7 +168,6 @@ pub fn have_variables(part: &Part<'_>, arguments: &[Argument]) -> bool {
 }
 
 /// Returns whether an argument that has tokens is no expression.
-#[inline]
 pub fn have_joined(part: &Part<'_>, arguments: &[Argument]) -> bool {
     for argument in arguments {
         if extra_operand(part, argument).is_some() {

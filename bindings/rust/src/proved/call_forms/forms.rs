@@ -43,7 +43,6 @@ pub enum Form<'a> {
 }
 
 /// Returns whether an argument is a byte string literal.
-#[inline]
 fn is_bytes(tokens: &[Token<'_>]) -> bool {
     match tokens {
         [token] => matches!(token.kind, Kind::ByteStr | Kind::RawByteStr),
@@ -53,7 +52,6 @@ fn is_bytes(tokens: &[Token<'_>]) -> bool {
 
 /// Returns what is wrong with an argument that should be the format string, where so many others
 /// stand after it, or `None` if nothing is known to be.
-#[inline]
 fn literal_form<'a>(tokens: &[Token<'a>], other_count: usize) -> Option<Form<'a>> {
     let Some(first) = tokens.first() else {
         return None;
@@ -68,7 +66,6 @@ fn literal_form<'a>(tokens: &[Token<'a>], other_count: usize) -> Option<Form<'a>
 }
 
 /// Returns the tokens of the argument with an index, or `None` if there is none.
-#[inline]
 fn part_at<'s, 'a>(
     tokens: &'s [Token<'a>],
     arguments: &[Argument],
@@ -88,13 +85,11 @@ fn lacks_expression(tokens: &[Token<'_>]) -> bool {
 
 /// Returns whether an argument is no expression, as far as its tokens show: it has none, an
 /// operator lacks an operand, or two operands stand next to each other.
-#[inline]
 fn is_bad(part: &Part<'_>, argument: &Argument) -> bool {
     lacks_expression(tokens_of(part.tokens(), argument)) || extra_operand(part, argument).is_some()
 }
 
 /// Returns the index of the first argument that is no expression, or `None` if there is none.
-#[inline]
 fn first_bad(part: &Part<'_>, arguments: &[Argument]) -> Option<usize> {
     for (index, argument) in arguments.iter().enumerate() {
         if is_bad(part, argument) {
@@ -112,7 +107,6 @@ fn no_comma(expected: ExpectedTokens, operator: Operator<'_>) -> Form<'_> {
 
 /// Returns what is wrong with an argument in which the operand with an index stands right after
 /// another one. `is_string` is whether it should be the format string.
-#[inline]
 fn joined_form<'a>(tokens: &[Token<'a>], index: usize, is_string: bool) -> Option<Form<'a>> {
     if !is_string && are_unknown(tokens) {
         return None;
@@ -129,7 +123,6 @@ fn joined_form<'a>(tokens: &[Token<'a>], index: usize, is_string: bool) -> Optio
 
 /// Returns what is wrong with an argument that begins with an operator which needs an operand
 /// before it, or `None` if there is no token.
-#[inline]
 fn operand_form<'a>(tokens: &[Token<'a>]) -> Option<Form<'a>> {
     match operator_at(tokens, 0) {
         Some(operator) => Some(Form::NoOperand(operator)),
@@ -139,7 +132,6 @@ fn operand_form<'a>(tokens: &[Token<'a>]) -> Option<Form<'a>> {
 
 /// Returns what is wrong with the argument with an index, which is no expression. `is_string` is
 /// whether it should be the format string, and `is_last` whether the end of the call follows it.
-#[inline]
 fn bad_form<'a>(
     part: &Part<'a>,
     argument: &Argument,
@@ -158,7 +150,6 @@ fn bad_form<'a>(
 }
 
 /// Returns whether the end of the call follows the argument with an index.
-#[inline]
 fn is_last(arguments: &[Argument], index: usize, close: usize) -> bool {
     match arguments.get(index) {
         Some(argument) => argument.end == close,
@@ -169,7 +160,6 @@ fn is_last(arguments: &[Argument], index: usize, close: usize) -> bool {
 /// Returns what is wrong with arguments of which the one with the index `bad_index` is no
 /// expression, and the one with the index `string_index` should be the format string. `is_last` is
 /// whether the end of the call follows the one that is no expression.
-#[inline]
 fn form_at<'a>(
     part: &Part<'a>,
     arguments: &[Argument],
@@ -201,7 +191,6 @@ fn starts_well(bad_index: Option<usize>, index: usize) -> bool {
 
 /// Returns the fault of an argument that is a string literal and more tokens after it, if it is
 /// known.
-#[inline]
 fn comma_form<'a>(tokens: &[Token<'a>]) -> Option<Form<'a>> {
     match operator_at(tokens, 1) {
         Some(operator) => Some(no_comma(ExpectedTokens::Comma, operator)),
@@ -218,7 +207,6 @@ fn others_after(arguments: &[Argument], index: usize) -> usize {
 /// Returns what is wrong with the arguments of a call of which the one with this index should be
 /// the format string, or `None` if nothing is known to be. `lacks_string` is whether it is a fault
 /// that there is none, and the list of arguments ends at a token.
-#[inline]
 fn form_of<'a>(
     part: &Part<'a>,
     arguments: &[Argument],
@@ -258,7 +246,6 @@ fn form_of<'a>(
 
 /// Returns whether a macro of this name wants a format string, and has no other rule where none is
 /// given.
-#[inline]
 fn needs_string(name: &[u8]) -> bool {
     name == b"format".as_slice()
         || name == b"format_args".as_slice()
@@ -268,7 +255,6 @@ fn needs_string(name: &[u8]) -> bool {
 
 /// Returns whether it is a fault that a call of a macro of this name, with these arguments before
 /// the delimiter at `close`, has no format string.
-#[inline]
 fn lacks_string(name: &[u8], arguments: &[Argument], close: usize) -> bool {
     match arguments {
         [] => needs_string(name),
@@ -279,7 +265,6 @@ fn lacks_string(name: &[u8], arguments: &[Argument], close: usize) -> bool {
 
 /// Returns the index of the argument that should be the format string of a macro of the standard
 /// library with this rule, or `None` if it may be any expression.
-#[inline]
 fn index_of(rule: Rule, is_from_2021: bool) -> Option<usize> {
     match rule {
         Rule::Index(index) => Some(index),
@@ -296,7 +281,6 @@ fn index_of(rule: Rule, is_from_2021: bool) -> Option<usize> {
 
 /// Returns what is wrong with the arguments of a call of a macro of this name and with this rule,
 /// or `None` if nothing is known to be, as of macros that are not those of the standard library.
-#[inline]
 pub fn form_here<'a>(
     part: &Part<'a>,
     name: &[u8],

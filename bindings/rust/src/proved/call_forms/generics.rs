@@ -22,13 +22,11 @@ pub struct Place {
 }
 
 /// Returns whether a token is the name of a parameter, where one may stand.
-#[inline]
 fn names(place: Place, token: &Token<'_>) -> bool {
     place.open_delimiters == 0 && place.is_first && is_word(token) && !is_text(token, "const")
 }
 
 /// Returns how many angles are open after a token outside of delimiters.
-#[inline]
 fn angles_after(place: Place, token: &Token<'_>) -> usize {
     if is_mark_of(token, b'<') {
         place.angles + 1
@@ -40,13 +38,11 @@ fn angles_after(place: Place, token: &Token<'_>) -> usize {
 }
 
 /// Returns whether a parameter may begin after a token outside of delimiters.
-#[inline]
 fn first_after(place: Place, token: &Token<'_>) -> bool {
     place.angles == 1 && is_mark_of(token, b',') || place.is_first && !names(place, token)
 }
 
 /// Returns the place after a token outside of delimiters, which is none itself.
-#[inline]
 fn plain_after(place: Place, token: &Token<'_>) -> Place {
     Place {
         angles: angles_after(place, token),
@@ -57,7 +53,6 @@ fn plain_after(place: Place, token: &Token<'_>) -> Place {
 }
 
 /// Returns a place with this many open delimiters.
-#[inline]
 fn with_delimiters(place: Place, open_delimiters: usize) -> Place {
     Place {
         angles: place.angles,
@@ -68,7 +63,6 @@ fn with_delimiters(place: Place, open_delimiters: usize) -> Place {
 }
 
 /// Returns the place where a list has ended.
-#[inline]
 fn end_place() -> Place {
     Place {
         angles: 0,
@@ -79,7 +73,6 @@ fn end_place() -> Place {
 }
 
 /// Returns the place after a token of a list, which ends at the latest before another trait.
-#[inline]
 fn place_after(place: Place, token: &Token<'_>) -> Place {
     if is_text(token, "trait") {
         return end_place();
@@ -101,7 +94,6 @@ fn place_after(place: Place, token: &Token<'_>) -> Place {
 }
 
 /// Adds the name of the parameter that a token is, if it is one.
-#[inline]
 fn put_parameter<'a>(
     list: &mut Vec<&'a str>,
     place: Place,
@@ -115,7 +107,6 @@ fn put_parameter<'a>(
 
 /// Returns the names of the parameters whose list opens with the token of an index, or none if no
 /// list does.
-#[inline]
 pub fn parameters<'a>(tokens: &[Token<'a>], index: usize) -> Result<Vec<&'a str>, AllocError> {
     let mut names = Vec::new();
     if !is_mark(tokens, index, b'<') {

@@ -4,7 +4,6 @@
 // That source has the contracts, and is proved. That this text means the same is only tested.
 
 /// Returns whether a word is a keyword around which expressions may stand.
-#[inline]
 pub fn is_control(word: &str) -> bool {
     word == "as"
         || word == "break"
@@ -22,7 +21,6 @@ pub fn is_control(word: &str) -> bool {
 }
 
 /// Returns whether a word is a keyword in front of an expression, a pattern or a type.
-#[inline]
 pub fn is_modifier(word: &str) -> bool {
     word == "async"
         || word == "const"
@@ -38,7 +36,6 @@ pub fn is_modifier(word: &str) -> bool {
 }
 
 /// Returns whether a word is a keyword that is an expression or begins a path.
-#[inline]
 pub fn is_special(word: &str) -> bool {
     word == "_"
         || word == "crate"
@@ -50,7 +47,6 @@ pub fn is_special(word: &str) -> bool {
 }
 
 /// Returns whether a word is a keyword that has no use so far.
-#[inline]
 fn is_reserved(word: &str) -> bool {
     word == "abstract"
         || word == "become"
@@ -68,7 +64,6 @@ fn is_reserved(word: &str) -> bool {
 }
 
 /// Returns whether a word that is not reserved is a keyword.
-#[inline]
 fn is_keyword(word: &str) -> bool {
     is_control(word)
         || is_modifier(word)
@@ -85,7 +80,6 @@ fn is_keyword(word: &str) -> bool {
 }
 
 /// Returns the words of rustc before a token in a title, with the space after them.
-#[inline]
 pub fn kind_word(text: &str) -> &'static str {
     if text == "_" {
         "reserved identifier "

@@ -21,7 +21,6 @@ pub struct Operator<'a> {
 }
 
 /// Returns whether a token is a character that makes an operator with another one of its kind.
-#[inline]
 fn doubles(token: &Token<'_>) -> bool {
     is_mark_of(token, b'&')
         || is_mark_of(token, b'|')
@@ -32,7 +31,6 @@ fn doubles(token: &Token<'_>) -> bool {
 }
 
 /// Returns whether a token is a character that makes an operator with `=` after it.
-#[inline]
 fn takes_equals(token: &Token<'_>) -> bool {
     is_mark_of(token, b'=')
         || is_mark_of(token, b'!')
@@ -49,7 +47,6 @@ fn takes_equals(token: &Token<'_>) -> bool {
 }
 
 /// Returns whether two characters are an operator, or begin one.
-#[inline]
 fn is_pair(token: &Token<'_>, next: &Token<'_>) -> bool {
     takes_equals(token) && is_mark_of(next, b'=')
         || is_mark_of(token, b'=') && is_mark_of(next, b'>')
@@ -66,7 +63,6 @@ fn is_glued(token: &Token<'_>, next: &Token<'_>) -> bool {
 
 /// Returns whether a character may be the third one of an operator that begins with another one
 /// twice.
-#[inline]
 fn is_third(first: &Token<'_>, token: &Token<'_>) -> bool {
     is_mark_of(token, b'=')
         && (is_mark_of(first, b'<') || is_mark_of(first, b'>') || is_mark_of(first, b'.'))
@@ -74,13 +70,11 @@ fn is_third(first: &Token<'_>, token: &Token<'_>) -> bool {
 }
 
 /// Returns whether the third of these tokens belongs to the operator that the others begin.
-#[inline]
 fn ends_operator(first: &Token<'_>, second: &Token<'_>, third: &Token<'_>) -> bool {
     is_joint(second, third) && (first.text == second.text && is_third(first, third))
 }
 
 /// Returns the third character of the operator that two tokens begin, or an empty text.
-#[inline]
 fn third_text<'a>(first: &Token<'_>, second: &Token<'_>, third: Option<Token<'a>>) -> &'a str {
     match third {
         Some(third) if ends_operator(first, second, &third) => third.text,
@@ -89,7 +83,6 @@ fn third_text<'a>(first: &Token<'_>, second: &Token<'_>, third: Option<Token<'a>
 }
 
 /// Returns the operator that a token begins, or the token alone.
-#[inline]
 fn operator_by<'a>(
     first: Token<'a>,
     second: Option<Token<'a>>,
@@ -110,7 +103,6 @@ fn operator_by<'a>(
 }
 
 /// Returns the token with an index as rustc has it, or `None` if there is none.
-#[inline]
 pub fn operator_at<'a>(tokens: &[Token<'a>], index: usize) -> Option<Operator<'a>> {
     let Some(first) = token_at(tokens, index) else {
         return None;
@@ -121,7 +113,6 @@ pub fn operator_at<'a>(tokens: &[Token<'a>], index: usize) -> Option<Operator<'a
 }
 
 /// Returns whether no expression begins with a character.
-#[inline]
 fn is_infix(token: &Token<'_>) -> bool {
     is_mark_of(token, b'=')
         || is_mark_of(token, b'>')
@@ -134,7 +125,6 @@ fn is_infix(token: &Token<'_>) -> bool {
 }
 
 /// Returns whether tokens begin with an operator that needs an operand before it.
-#[inline]
 pub fn lacks_left(tokens: &[Token<'_>]) -> bool {
     match tokens.first() {
         Some(first) if matches!(first.kind, Kind::Punct) => {
@@ -151,7 +141,6 @@ pub fn lacks_left(tokens: &[Token<'_>]) -> bool {
 }
 
 /// Returns whether a token closes a pair of delimiters.
-#[inline]
 fn is_closing(token: &Token<'_>) -> bool {
     match token.side() {
         Side::Closes(_) => true,
@@ -160,7 +149,6 @@ fn is_closing(token: &Token<'_>) -> bool {
 }
 
 /// Returns whether an operand ends with a token.
-#[inline]
 fn is_operand_end(token: Option<Token<'_>>) -> bool {
     match token {
         Some(token) => {
@@ -174,7 +162,6 @@ fn is_operand_end(token: Option<Token<'_>>) -> bool {
 }
 
 /// Returns whether a token is an operator that needs an operand after it.
-#[inline]
 fn is_single(token: &Token<'_>) -> bool {
     is_mark_of(token, b'=')
         || is_mark_of(token, b'+')
@@ -187,19 +174,16 @@ fn is_single(token: &Token<'_>) -> bool {
 }
 
 /// Returns whether a character is an operator that needs an operand after it, alone and twice.
-#[inline]
 fn is_either(token: &Token<'_>) -> bool {
     is_mark_of(token, b'|') || is_mark_of(token, b'<') || is_mark_of(token, b'>')
 }
 
 /// Returns whether two characters of an operator are one that needs an operand after it.
-#[inline]
 fn is_double(token: &Token<'_>, next: &Token<'_>) -> bool {
     is_mark_of(next, b'=') || (is_mark_of(next, b'&') || is_either(next)) && token.text == next.text
 }
 
 /// Returns whether a token is an operator with which an expression begins.
-#[inline]
 fn is_prefix(token: &Token<'_>) -> bool {
     is_mark_of(token, b'*')
         || is_mark_of(token, b'&')
@@ -208,7 +192,6 @@ fn is_prefix(token: &Token<'_>) -> bool {
 }
 
 /// Returns whether a token is the last character of an operator that needs an operand after it.
-#[inline]
 fn is_end(token: &Token<'_>) -> bool {
     matches!(token.kind, Kind::Punct)
         && (is_single(token) || is_either(token) || is_mark_of(token, b'!'))
@@ -216,7 +199,6 @@ fn is_end(token: &Token<'_>) -> bool {
 
 /// Returns the number of characters of an operator after an operand that ends with the last of
 /// three tokens, or 0.
-#[inline]
 fn operator_len(previous: Option<Token<'_>>, second: Option<Token<'_>>, last: &Token<'_>) -> usize {
     match second {
         Some(token) => {
@@ -238,7 +220,6 @@ fn operator_len(previous: Option<Token<'_>>, second: Option<Token<'_>>, last: &T
 
 /// Returns whether this token stands in a closure, a pattern or a type, where rustc says more of an
 /// operator after it, or reads it as another one.
-#[inline]
 fn is_unclear(token: &Token<'_>) -> bool {
     is_mark_of(token, b'|')
         || is_mark_of(token, b'<')
@@ -259,14 +240,12 @@ fn are_unclear(tokens: &[Token<'_>]) -> bool {
 
 /// Returns whether tokens end with an operator of so many characters, and what stands before it is
 /// clear.
-#[inline]
 fn ends_by(tokens: &[Token<'_>], len: usize) -> bool {
     len > 0 && !are_unclear(&tokens[..tokens.len().saturating_sub(len)])
 }
 
 /// Returns whether tokens, of which this is the last one, end with an operator that needs an
 /// operand after it.
-#[inline]
 fn lacks_after(tokens: &[Token<'_>], last: &Token<'_>) -> bool {
     if !is_end(last) {
         return false;
@@ -281,7 +260,6 @@ fn lacks_after(tokens: &[Token<'_>], last: &Token<'_>) -> bool {
 }
 
 /// Returns whether tokens end with an operator that needs an operand after it.
-#[inline]
 pub fn lacks_right(tokens: &[Token<'_>]) -> bool {
     match tokens.get(tokens.len().saturating_sub(1)) {
         Some(last) => lacks_after(tokens, last),

@@ -4,14 +4,12 @@
 // That source has the contracts, and is proved. That this text means the same is only tested.
 
 /// Returns whether a byte of a text may stand in a path beside `::`.
-#[inline]
 pub fn is_in_path(byte: u8) -> bool {
     byte.is_ascii_alphanumeric() || byte == b'_' || byte == b'$' || byte >= 0x80
 }
 
 /// Returns whether a word shows that its path is one of log, tracing or slog, or one of the package
 /// itself.
-#[inline]
 fn is_known(word: &[u8]) -> bool {
     word == b"log".as_slice()
         || word == b"tracing".as_slice()
@@ -23,14 +21,12 @@ fn is_known(word: &[u8]) -> bool {
 }
 
 /// Returns whether these bytes end with `::`.
-#[inline]
 fn ends_path(front: &[u8]) -> bool {
     let count = front.len();
     count >= 2 && front[count - 1] == b':' && front[count - 2] == b':'
 }
 
 /// Returns whether one of the words of the path with which these bytes end is known.
-#[inline]
 fn has_known(front: &[u8]) -> bool {
     let mut start = front.len();
     let mut end = start;
@@ -52,7 +48,6 @@ fn has_known(front: &[u8]) -> bool {
 
 /// Returns whether the path in front of an offset of a text is one of another crate than log,
 /// tracing and slog. White space and comments are in no path.
-#[inline]
 pub fn is_foreign(text: &str, offset: usize) -> bool {
     let bytes = text.as_bytes();
     let front = &bytes[..offset.min(bytes.len())];

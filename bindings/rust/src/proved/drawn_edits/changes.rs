@@ -19,7 +19,6 @@ use crate::shim::prelude::*;
 
 /// Returns the only addition of a line, or `None` if there are several, or a text of the line is in
 /// front of it.
-#[inline]
 fn lone_addition<'a>(parts: &[Part<'a>]) -> Option<&'a str> {
     for (index, part) in parts.iter().enumerate() {
         if is_added(part) {
@@ -37,7 +36,6 @@ fn lone_addition<'a>(parts: &[Part<'a>]) -> Option<&'a str> {
 
 /// Returns how many cells a text takes, if a tab takes four of them, and another character one.
 /// Returns `Err` if it is too long for memory.
-#[inline]
 fn cells_of(text: &str) -> Result<usize, AllocError> {
     if text.len() >= 1 << (usize::BITS - 5) {
         return crate::shim::alloc::refuse();
@@ -52,7 +50,6 @@ fn cells_of(text: &str) -> Result<usize, AllocError> {
 }
 
 /// Returns whether parts have so many bytes.
-#[inline]
 fn have_bytes(count: usize, parts: &[Part<'_>]) -> bool {
     let mut countdown = count;
     for part in parts {
@@ -65,7 +62,6 @@ fn have_bytes(count: usize, parts: &[Part<'_>]) -> bool {
 }
 
 /// Returns the sign of a changed line, or `None` if it has none.
-#[inline]
 fn sign_of(parts: &[Part<'_>]) -> Result<Option<&'static str>, AllocError> {
     let Some(text) = lone_addition(parts) else {
         return Ok(Some("~ "));
@@ -81,7 +77,6 @@ fn sign_of(parts: &[Part<'_>]) -> Result<Option<&'static str>, AllocError> {
 }
 
 /// Adds the row of a changed line.
-#[inline]
 fn put_changed_row(
     out: &mut String,
     frame: &Frame<'_>,
@@ -96,7 +91,6 @@ fn put_changed_row(
 }
 
 /// Adds the rows of several new lines up to the last changed one, from a number on.
-#[inline]
 fn put_changed_rows(
     out: &mut String,
     frame: &Frame<'_>,
@@ -115,7 +109,6 @@ fn put_changed_rows(
 }
 
 /// Adds the row of a new line, unless it is blank.
-#[inline]
 fn put_new_row(
     out: &mut String,
     frame: &Frame<'_>,
@@ -131,7 +124,6 @@ fn put_new_row(
 }
 
 /// Adds the rows of old lines and of a new one.
-#[inline]
 fn put_replaced_rows(
     out: &mut String,
     frame: &Frame<'_>,
@@ -156,7 +148,6 @@ fn put_replaced_rows(
 }
 
 /// Returns how many columns a text takes. Returns `Err` if it is too long for memory.
-#[inline]
 fn columns_of(text: &str) -> Result<usize, AllocError> {
     if text.len() >= 1 << (usize::BITS - 5) {
         return crate::shim::alloc::refuse();
@@ -172,7 +163,6 @@ fn columns_of(text: &str) -> Result<usize, AllocError> {
 
 /// Adds the signs under an addition, after so many spaces. Returns how many columns after these
 /// signs the addition ends.
-#[inline]
 fn put_pluses(
     out: &mut String,
     palette: Palette,
@@ -197,7 +187,6 @@ fn put_pluses(
 }
 
 /// Adds the signs under the additions of a line.
-#[inline]
 fn put_plus_signs(
     out: &mut String,
     palette: Palette,
@@ -219,7 +208,6 @@ fn put_plus_signs(
 }
 
 /// Adds the row of these signs.
-#[inline]
 fn put_plus_row(out: &mut String, gutter: Gutter, parts: &[Part<'_>]) -> Result<(), AllocError> {
     put_gutter(out, gutter)?;
     put_plus_signs(out, gutter.palette, parts)?;
@@ -228,7 +216,6 @@ fn put_plus_row(out: &mut String, gutter: Gutter, parts: &[Part<'_>]) -> Result<
 }
 
 /// Returns whether a line has nothing but an addition that ends it.
-#[inline]
 fn is_whole(parts: &[Part<'_>]) -> bool {
     match parts {
         [before, _] => are_blank(&[*before]),
@@ -237,7 +224,6 @@ fn is_whole(parts: &[Part<'_>]) -> bool {
 }
 
 /// Adds the rows of a line in which something is added.
-#[inline]
 fn put_inserted_rows(
     out: &mut String,
     frame: &Frame<'_>,
@@ -258,7 +244,6 @@ fn put_inserted_rows(
 }
 
 /// Adds the rows of parts in one new line.
-#[inline]
 fn put_line_rows(
     out: &mut String,
     frame: &Frame<'_>,
@@ -279,7 +264,6 @@ fn put_line_rows(
 }
 
 /// Adds the rows of parts with these new lines.
-#[inline]
 fn put_new_rows(
     out: &mut String,
     frame: &Frame<'_>,
@@ -299,7 +283,6 @@ fn put_new_rows(
 }
 
 /// Returns the parts of edits from a line on.
-#[inline]
 fn edited_parts<'a>(
     frame: &Frame<'a>,
     number: usize,
@@ -311,7 +294,6 @@ fn edited_parts<'a>(
 }
 
 /// Adds the rows of edits from a line on.
-#[inline]
 fn put_rows_from(
     out: &mut String,
     frame: &Frame<'_>,
@@ -326,7 +308,6 @@ fn put_rows_from(
 }
 
 /// Adds the rows of edits.
-#[inline]
 pub fn put_rows(out: &mut String, frame: &Frame<'_>, edits: &[Edit<'_>]) -> Result<(), AllocError> {
     match edits {
         [] => {}

@@ -12,7 +12,6 @@ use crate::shim::alloc::AllocError;
 use crate::shim::prelude::*;
 
 /// Adds parts of a line without their colours.
-#[inline]
 fn put_plain_parts(out: &mut String, parts: &[Part<'_>]) -> Result<(), AllocError> {
     for part in parts {
         put_glyphs(out, part.text, 0)?;
@@ -21,7 +20,6 @@ fn put_plain_parts(out: &mut String, parts: &[Part<'_>]) -> Result<(), AllocErro
 }
 
 /// Adds parts of a line in colours, after a sign of this style.
-#[inline]
 fn put_coloured_parts(
     out: &mut String,
     palette: Palette,
@@ -39,7 +37,6 @@ fn put_coloured_parts(
 }
 
 /// Adds parts of a line, after a sign of this style.
-#[inline]
 fn put_parts(
     out: &mut String,
     palette: Palette,
@@ -56,7 +53,6 @@ fn put_parts(
 }
 
 /// Adds the row of a line with a number, after a sign of this style.
-#[inline]
 pub fn put_sign_row(
     out: &mut String,
     frame: &Frame<'_>,
@@ -73,7 +69,6 @@ pub fn put_sign_row(
 }
 
 /// Adds the rows of lines after a sign of this style, from a number on.
-#[inline]
 pub fn put_sign_rows(
     out: &mut String,
     frame: &Frame<'_>,
@@ -89,7 +84,6 @@ pub fn put_sign_rows(
 }
 
 /// Returns whether nothing is drawn of parts of a line.
-#[inline]
 fn draw_nothing(parts: &[Part<'_>]) -> bool {
     for part in parts {
         if !draws_nothing(part.text) {
@@ -100,7 +94,6 @@ fn draw_nothing(parts: &[Part<'_>]) -> bool {
 }
 
 /// Adds the text after the bar of a line.
-#[inline]
 fn put_spaced_text(out: &mut String, parts: &[Part<'_>]) -> Result<(), AllocError> {
     if !draw_nothing(parts) {
         out.try_push_str(" ")?;
@@ -110,7 +103,6 @@ fn put_spaced_text(out: &mut String, parts: &[Part<'_>]) -> Result<(), AllocErro
 }
 
 /// Adds the row of a line with a number that no edit changes.
-#[inline]
 pub fn put_kept_row(
     out: &mut String,
     frame: &Frame<'_>,
@@ -124,7 +116,6 @@ pub fn put_kept_row(
 }
 
 /// Adds the rows of such lines, from a number on.
-#[inline]
 fn put_kept_rows(
     out: &mut String,
     frame: &Frame<'_>,
@@ -138,7 +129,6 @@ fn put_kept_rows(
 }
 
 /// Adds the rows of lines from the number `n` on, and of others from `m` on, and dots between them.
-#[inline]
 fn put_kept_ends(
     out: &mut String,
     frame: &Frame<'_>,
@@ -156,7 +146,6 @@ fn put_kept_ends(
 
 /// Adds the rows of such lines in front of a changed one: of more than three the first and the last
 /// one.
-#[inline]
 pub fn put_kept_lines(
     out: &mut String,
     frame: &Frame<'_>,

@@ -26,7 +26,6 @@ pub struct Edit<'a> {
 }
 
 /// Returns an edit with its place in the source.
-#[inline]
 pub fn placed_edit<'a>(picture: &Picture<'_>, text: &'a str, range: &Range<usize>) -> Edit<'a> {
     let (start, end) = offsets(picture, range);
     Edit {
@@ -54,7 +53,6 @@ pub struct Line<'a> {
 
 /// Returns the first characters of a text, as many as end within `width` bytes, and what is after
 /// them.
-#[inline]
 pub fn split_within(text: &str, width: usize) -> (&str, &str) {
     let mut rest = text;
     let mut countdown = width;
@@ -70,7 +68,6 @@ pub fn split_within(text: &str, width: usize) -> (&str, &str) {
 
 /// Returns the parts of a text at the byte offset `start` of the source, from its first line to the
 /// end of the line in which the last edit ends.
-#[inline]
 pub fn parts_of<'a>(
     start: usize,
     text: &'a str,
@@ -108,7 +105,6 @@ pub fn parts_of<'a>(
 }
 
 /// Adds a part of a line, and ends the line.
-#[inline]
 fn end_line<'a>(
     lines: &mut Vec<Line<'a>>,
     row: &mut Vec<Part<'a>>,
@@ -127,7 +123,6 @@ fn split_feed(text: &str) -> Option<(&str, &str)> {
 }
 
 /// Adds a text of a style after lines.
-#[inline]
 fn push_text<'a>(
     lines: &mut Vec<Line<'a>>,
     row: &mut Vec<Part<'a>>,
@@ -144,7 +139,6 @@ fn push_text<'a>(
 }
 
 /// Adds parts after lines, but for those of the style `style`.
-#[inline]
 fn push_parts<'a>(
     lines: &mut Vec<Line<'a>>,
     row: &mut Vec<Part<'a>>,
@@ -160,7 +154,6 @@ fn push_parts<'a>(
 }
 
 /// Returns whether parts have no text.
-#[inline]
 fn have_no_text(parts: &[Part<'_>]) -> bool {
     for part in parts {
         if !part.text.is_empty() {
@@ -171,7 +164,6 @@ fn have_no_text(parts: &[Part<'_>]) -> bool {
 }
 
 /// Returns how many of lines there are up to the last one with a text.
-#[inline]
 fn count_to_text(lines: &[Line<'_>]) -> usize {
     let mut count = 0;
     for (index, line) in lines.iter().enumerate() {
@@ -184,7 +176,6 @@ fn count_to_text(lines: &[Line<'_>]) -> usize {
 
 /// Adds the lines of parts without what they remove. Leaves out what is after the last edit if the
 /// text of that edit ends a line.
-#[inline]
 fn push_new_part<'a>(
     lines: &mut Vec<Line<'a>>,
     row: &mut Vec<Part<'a>>,
@@ -200,7 +191,6 @@ fn push_new_part<'a>(
 }
 
 /// Returns the new lines of parts, without those at their end that have no text.
-#[inline]
 pub fn new_lines<'a>(parts: &[Part<'a>]) -> Result<Vec<Line<'a>>, AllocError> {
     let mut lines = Vec::new();
     let mut row = Vec::new();
@@ -212,7 +202,6 @@ pub fn new_lines<'a>(parts: &[Part<'a>]) -> Result<Vec<Line<'a>>, AllocError> {
 }
 
 /// Returns the lines of parts without what they add.
-#[inline]
 pub fn old_lines<'a>(parts: &[Part<'a>]) -> Result<Vec<Line<'a>>, AllocError> {
     let mut lines = Vec::new();
     let mut row = Vec::new();
@@ -222,7 +211,6 @@ pub fn old_lines<'a>(parts: &[Part<'a>]) -> Result<Vec<Line<'a>>, AllocError> {
 }
 
 /// Returns whether parts are white space.
-#[inline]
 pub fn are_blank(parts: &[Part<'_>]) -> bool {
     for part in parts {
         if !part.text.trim().is_empty() {
@@ -250,7 +238,6 @@ pub fn have_addition(parts: &[Part<'_>]) -> bool {
 }
 
 /// Returns whether edits remove something that is no white space.
-#[inline]
 pub fn do_remove(parts: &[Part<'_>]) -> bool {
     for part in parts {
         if matches!(part.style, Style::Removal) && !part.text.trim().is_empty() {
@@ -261,7 +248,6 @@ pub fn do_remove(parts: &[Part<'_>]) -> bool {
 }
 
 /// Adds the text of parts.
-#[inline]
 fn put_text(out: &mut String, parts: &[Part<'_>]) -> Result<(), AllocError> {
     for part in parts {
         out.try_push_str(part.text)?;
@@ -270,7 +256,6 @@ fn put_text(out: &mut String, parts: &[Part<'_>]) -> Result<(), AllocError> {
 }
 
 /// Returns the text of lines.
-#[inline]
 fn text_of(lines: &[Line<'_>]) -> Result<String, AllocError> {
     let mut text = String::new();
     for line in lines {
@@ -280,7 +265,6 @@ fn text_of(lines: &[Line<'_>]) -> Result<String, AllocError> {
 }
 
 /// Returns whether the text of the last old line is that of the only new one.
-#[inline]
 pub fn is_same_end(old: &[Line<'_>], new: &[Line<'_>]) -> Result<bool, AllocError> {
     let [line, ..] = new else {
         return Ok(false);

@@ -10,5 +10,5 @@ pub(crate) mod suggestions;
 
 pub use edited::{placed_edit, Edit};
 pub use suggestions::put_edit;
-#[cfg(feature = "std")]
+#[cfg(feature = "programs")]
 pub use suggestions::{put_edits, put_help_word};

@@ -11,7 +11,6 @@ use crate::shim::alloc::AllocError;
 use crate::shim::prelude::*;
 
 /// Adds the word that a help begins with.
-#[inline]
 pub fn put_help_word(out: &mut String, palette: Palette) -> Result<(), AllocError> {
     put_painted_text(out, palette, Style::Help, "help")?;
     out.try_push_str(": ")?;
@@ -19,7 +18,6 @@ pub fn put_help_word(out: &mut String, palette: Palette) -> Result<(), AllocErro
 }
 
 /// Adds the title of a suggestion.
-#[inline]
 fn put_help_title(out: &mut String, palette: Palette, text: &str) -> Result<(), AllocError> {
     put_help_word(out, palette)?;
     out.try_push_str("did you mean `")?;
@@ -40,7 +38,6 @@ pub fn put_edits(
 }
 
 /// Adds the rows of an edit.
-#[inline]
 pub fn put_edit(out: &mut String, frame: &Frame<'_>, edit: &Edit<'_>) -> Result<(), AllocError> {
     put_help_title(out, frame.gutter.palette, edit.text)?;
     put_edits(out, frame, &[*edit])?;

@@ -53,7 +53,6 @@ pub struct Diagnostic<'a> {
 }
 
 /// Returns a label with its place in the source.
-#[inline]
 fn label_of<'a>(picture: &Picture<'_>, label: &SourceLabel<'a>) -> Label<'a> {
     Label {
         sign: if label.is_primary { '^' } else { '-' },
@@ -63,7 +62,6 @@ fn label_of<'a>(picture: &Picture<'_>, label: &SourceLabel<'a>) -> Label<'a> {
 }
 
 /// Returns labels with their places in the source.
-#[inline]
 fn labels_of<'a>(
     picture: &Picture<'_>,
     labels: &[SourceLabel<'a>],
@@ -76,7 +74,6 @@ fn labels_of<'a>(
 }
 
 /// Returns the gutter of a diagnostic with these labels.
-#[inline]
 fn gutter_of(
     picture: &Picture<'_>,
     diagnostic: &Diagnostic<'_>,
@@ -91,7 +88,6 @@ fn gutter_of(
 }
 
 /// Adds the row between the labels and what is below them, if there is anything.
-#[inline]
 fn put_parting_above(
     out: &mut String,
     frame: &Frame<'_>,
@@ -114,7 +110,6 @@ fn level_word(level: Level) -> &'static str {
 }
 
 /// Returns the level whose colours a diagnostic has.
-#[inline]
 fn level_of(level: Level) -> Palette {
     match level {
         Level::Error => Palette::Error,
@@ -123,7 +118,6 @@ fn level_of(level: Level) -> Palette {
 }
 
 /// Adds the drawing of a diagnostic with these labels in a layout.
-#[inline]
 fn put_drawn_diagnostic(
     out: &mut String,
     frame: &Frame<'_>,
@@ -146,7 +140,6 @@ fn put_drawn_diagnostic(
 }
 
 /// Adds the drawing of a diagnostic.
-#[inline]
 fn put_diagnostic(
     out: &mut String,
     picture: &Picture<'_>,
@@ -161,7 +154,6 @@ fn put_diagnostic(
 
 /// Appends the text that [`draw_labels`] returns to `out`. Returns `Err` if an allocation fails, or
 /// if the source has 2^59 bytes or more; a part of the text may then be in `out`.
-#[inline]
 pub fn put_labels(
     out: &mut String,
     picture: &Picture<'_>,

@@ -14,11 +14,11 @@ use crate::proved::drawn_lines::{
     put_painted_text, put_parting, put_run, Frame, Gutter, Palette, Picture, Spot, Style,
 };
 use crate::proved::rustc_parse_format::{ParseError, ParseMode};
+use crate::proved::shown_text::{put_shown, Kind};
 use crate::shim::alloc::AllocError;
 use crate::shim::prelude::*;
 
 /// Adds the start of all titles, up to the name of the text, in which the style goes on.
-#[inline]
 fn put_title_start(out: &mut String, palette: Palette) -> Result<(), AllocError> {
     if !has_colours(palette) {
         return Ok(out.try_push_str("error: invalid ")?);
@@ -30,7 +30,6 @@ fn put_title_start(out: &mut String, palette: Palette) -> Result<(), AllocError>
 }
 
 /// Adds the title of the error.
-#[inline]
 fn put_title(
     out: &mut String,
     palette: Palette,
@@ -47,13 +46,12 @@ fn put_title(
 }
 
 /// Adds where the text is that the error is about.
-#[inline]
 pub fn put_arrow(out: &mut String, frame: &Frame<'_>, at: Spot) -> Result<(), AllocError> {
     let line = frame.picture.line_start as usize + at.line;
     let column = at.chars + 1;
     put_run(out, ' ', frame.gutter.columns)?;
     put_painted_text(out, frame.gutter.palette, Style::Secondary, "--> ")?;
-    put_glyphs(out, frame.picture.path, 0)?;
+    put_shown(out, Kind::Line, frame.picture.path)?;
     out.try_push_str(":")?;
     put_decimal(out, line)?;
     out.try_push_str(":")?;
@@ -63,7 +61,6 @@ pub fn put_arrow(out: &mut String, frame: &Frame<'_>, at: Spot) -> Result<(), Al
 }
 
 /// Adds the lines above the source.
-#[inline]
 fn put_head(
     out: &mut String,
     mode: ParseMode,
@@ -78,7 +75,6 @@ fn put_head(
 }
 
 /// Adds the lines of a label that is alone.
-#[inline]
 fn put_label(out: &mut String, frame: &Frame<'_>, label: &Label<'_>) -> Result<(), AllocError> {
     if label.extent.start.line == label.extent.end.line {
         put_labelled_line(out, frame, &mark_in(frame, label))?;
@@ -89,7 +85,6 @@ fn put_label(out: &mut String, frame: &Frame<'_>, label: &Label<'_>) -> Result<(
 }
 
 /// Adds the lines with labels.
-#[inline]
 fn put_labels(
     out: &mut String,
     frame: &Frame<'_>,
@@ -107,7 +102,6 @@ fn put_labels(
 }
 
 /// Adds the start of a note.
-#[inline]
 pub fn put_note_word(out: &mut String, gutter: Gutter) -> Result<(), AllocError> {
     put_run(out, ' ', gutter.columns)?;
     put_note_sign(out, gutter.palette)?;
@@ -115,7 +109,6 @@ pub fn put_note_word(out: &mut String, gutter: Gutter) -> Result<(), AllocError>
 }
 
 /// Adds the row of a note, if there is one.
-#[inline]
 fn put_note(out: &mut String, gutter: Gutter, note: &Option<String>) -> Result<(), AllocError> {
     if let Some(note) = note {
         put_note_word(out, gutter)?;
@@ -126,7 +119,6 @@ fn put_note(out: &mut String, gutter: Gutter, note: &Option<String>) -> Result<(
 }
 
 /// Adds the row between the labels and what is below them, if there is anything.
-#[inline]
 fn put_parting_before(
     out: &mut String,
     frame: &Frame<'_>,
@@ -140,7 +132,6 @@ fn put_parting_before(
 }
 
 /// Adds the rows of an edit, if there is one.
-#[inline]
 fn put_help(
     out: &mut String,
     frame: &Frame<'_>,
@@ -153,7 +144,6 @@ fn put_help(
 }
 
 /// Adds the rows below the labels.
-#[inline]
 fn put_rows_below_labels(
     out: &mut String,
     frame: &Frame<'_>,
@@ -167,7 +157,6 @@ fn put_rows_below_labels(
 }
 
 /// Adds the drawing of an error with this label.
-#[inline]
 fn put_with_label(
     out: &mut String,
     mode: ParseMode,
@@ -190,7 +179,6 @@ fn put_with_label(
 const LEAST_BESIDES: usize = 75;
 
 /// Returns how many bytes a drawing has at least.
-#[inline]
 fn least_length(picture: &Picture<'_>, error: &ParseError) -> usize {
     let note = match &error.note {
         Some(note) => note.len(),
@@ -230,7 +218,6 @@ fn least_length(picture: &Picture<'_>, error: &ParseError) -> usize {
 /// A span that does not fit is drawn too: an offset inside a character means the start of that
 /// character, one after the source its end, and a range that ends before it begins is empty.
 /// Returns `Err` if an allocation fails, or if the source has 2^59 bytes or more.
-#[inline]
 pub fn draw(
     mode: ParseMode,
     picture: &Picture<'_>,
@@ -243,7 +230,6 @@ pub fn draw(
 
 /// Appends the text that [`draw`] returns to `out`. Returns `Err` if an allocation fails, or if the
 /// source has 2^59 bytes or more; a part of the text may then be in `out`.
-#[inline]
 pub fn put_drawing(
     out: &mut String,
     mode: ParseMode,

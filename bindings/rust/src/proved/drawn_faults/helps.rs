@@ -23,7 +23,6 @@ pub struct SourceHelp<'a> {
 }
 
 /// Returns edits with their places in the source.
-#[inline]
 fn placed_edits<'a>(
     picture: &Picture<'_>,
     edits: &[SourceEdit<'a>],
@@ -36,7 +35,6 @@ fn placed_edits<'a>(
 }
 
 /// Returns the last line that helps edit, or `last` if that is further down.
-#[inline]
 pub fn last_help_line(
     picture: &Picture<'_>,
     last: usize,
@@ -51,7 +49,6 @@ pub fn last_help_line(
 }
 
 /// Adds the start of a help without edits.
-#[inline]
 fn put_help_row_word(out: &mut String, gutter: Gutter) -> Result<(), AllocError> {
     put_run(out, ' ', gutter.columns)?;
     out.try_push_str(" ")?;
@@ -62,7 +59,6 @@ fn put_help_row_word(out: &mut String, gutter: Gutter) -> Result<(), AllocError>
 }
 
 /// Adds a help without edits, as a row.
-#[inline]
 fn put_help_row(out: &mut String, gutter: Gutter, text: &str) -> Result<(), AllocError> {
     put_help_row_word(out, gutter)?;
     put_indented_text(out, gutter, text)?;
@@ -71,7 +67,6 @@ fn put_help_row(out: &mut String, gutter: Gutter, text: &str) -> Result<(), Allo
 }
 
 /// Adds a help and its edits.
-#[inline]
 fn put_help(out: &mut String, frame: &Frame<'_>, help: &SourceHelp<'_>) -> Result<(), AllocError> {
     if help.edits.is_empty() {
         put_help_row(out, frame.gutter, help.text)?;
@@ -86,7 +81,6 @@ fn put_help(out: &mut String, frame: &Frame<'_>, help: &SourceHelp<'_>) -> Resul
 }
 
 /// Adds helps.
-#[inline]
 pub fn put_helps(
     out: &mut String,
     frame: &Frame<'_>,

@@ -13,7 +13,6 @@ use crate::proved::rustc_parse_format::{ParseError, ParseMode, Suggestion};
 use core::ops::Range;
 
 /// Returns the name of the compiler for the text of a literal in a mode.
-#[inline]
 pub fn text_name(mode: ParseMode) -> &'static str {
     match mode {
         ParseMode::InlineAsm => "asm template string",
@@ -22,7 +21,6 @@ pub fn text_name(mode: ParseMode) -> &'static str {
 }
 
 /// Returns the text and the range of the second label, or `None` if there is none.
-#[inline]
 fn second_text(mode: ParseMode, error: &ParseError) -> Option<(&str, &Range<usize>)> {
     if let Some((text, span)) = &error.secondary_label {
         return Some((text.as_str(), span));
@@ -40,7 +38,6 @@ fn second_text(mode: ParseMode, error: &ParseError) -> Option<(&str, &Range<usiz
 }
 
 /// Returns the second label, or `None` if there is none.
-#[inline]
 pub fn second_label<'a>(
     mode: ParseMode,
     picture: &Picture<'_>,
@@ -56,7 +53,6 @@ pub fn second_label<'a>(
 }
 
 /// Returns the edit that is drawn, or `None` if there is none.
-#[inline]
 pub fn edit_of<'a>(
     mode: ParseMode,
     picture: &Picture<'_>,
@@ -72,7 +68,6 @@ pub fn edit_of<'a>(
 }
 
 /// Returns the last line of a label, or 0 without one.
-#[inline]
 fn last_line(label: &Option<Label<'_>>) -> usize {
     match label {
         None => 0,
@@ -81,7 +76,6 @@ fn last_line(label: &Option<Label<'_>>) -> usize {
 }
 
 /// Returns the last line of an edit, or 0 without one.
-#[inline]
 fn edit_line(edit: &Option<Edit<'_>>) -> usize {
     match edit {
         None => 0,
@@ -90,7 +84,6 @@ fn edit_line(edit: &Option<Edit<'_>>) -> usize {
 }
 
 /// Returns the line of the second label, or else the last one of the first label.
-#[inline]
 fn other_line(label: &Label<'_>, second: &Option<Label<'_>>) -> usize {
     match second {
         None => label.extent.end.line,
@@ -99,7 +92,6 @@ fn other_line(label: &Label<'_>, second: &Option<Label<'_>>) -> usize {
 }
 
 /// Returns the least indent, where a blank line has none.
-#[inline]
 fn lesser_indent(m: Option<usize>, n: Option<usize>) -> usize {
     match (m, n) {
         (None, None) => 0,
@@ -117,7 +109,6 @@ fn lesser_indent(m: Option<usize>, n: Option<usize>) -> usize {
 
 /// Returns the least indent of two lines of the source, where a blank line has none. Mostly they
 /// are the same line, which is then looked for once.
-#[inline]
 fn least_indent(picture: &Picture<'_>, number: usize, other: usize) -> usize {
     let indent = line_indent(picture, number);
     if other == number {
@@ -127,7 +118,6 @@ fn least_indent(picture: &Picture<'_>, number: usize, other: usize) -> usize {
 }
 
 /// Returns the layout for labels and an edit.
-#[inline]
 pub fn frame_for<'a>(
     picture: &'a Picture<'a>,
     label: &Label<'_>,

@@ -15,7 +15,6 @@ use crate::shim::alloc::AllocError;
 use crate::shim::prelude::*;
 
 /// Returns the last line in which one of labels ends, or `last` if that is further down.
-#[inline]
 pub fn last_label_line(last: usize, labels: &[Label<'_>]) -> usize {
     let mut line = last;
     for label in labels {
@@ -25,7 +24,6 @@ pub fn last_label_line(last: usize, labels: &[Label<'_>]) -> usize {
 }
 
 /// Returns the last line in which one of edits ends, or `last` if that is further down.
-#[inline]
 pub fn last_edit_line(last: usize, edits: &[Edit<'_>]) -> usize {
     let mut line = last;
     for edit in edits {
@@ -35,7 +33,6 @@ pub fn last_edit_line(last: usize, edits: &[Edit<'_>]) -> usize {
 }
 
 /// Returns the lower of two indents, of which a blank line has none.
-#[inline]
 fn lower_indent(m: Option<usize>, n: Option<usize>) -> Option<usize> {
     match (m, n) {
         (None, n) => n,
@@ -46,7 +43,6 @@ fn lower_indent(m: Option<usize>, n: Option<usize>) -> Option<usize> {
 
 /// Returns the lowest indent of the lines in which labels begin and end, or `None` if these are
 /// blank.
-#[inline]
 fn lowest_of_labels(picture: &Picture<'_>, labels: &[Label<'_>]) -> Option<usize> {
     let mut least = None;
     for label in labels {
@@ -58,7 +54,6 @@ fn lowest_of_labels(picture: &Picture<'_>, labels: &[Label<'_>]) -> Option<usize
 }
 
 /// Returns the lowest indent of the lines in which labels begin and end, or 0 if these are blank.
-#[inline]
 fn lowest_indent(picture: &Picture<'_>, labels: &[Label<'_>]) -> usize {
     match lowest_of_labels(picture, labels) {
         None => 0,
@@ -67,7 +62,6 @@ fn lowest_indent(picture: &Picture<'_>, labels: &[Label<'_>]) -> usize {
 }
 
 /// Returns the layout of labels.
-#[inline]
 pub fn frame_of<'a>(picture: &'a Picture<'a>, gutter: Gutter, labels: &[Label<'_>]) -> Frame<'a> {
     Frame {
         picture,
@@ -77,13 +71,11 @@ pub fn frame_of<'a>(picture: &'a Picture<'a>, gutter: Gutter, labels: &[Label<'_
 }
 
 /// Returns whether a place is in a line above another one, or in front of it in the same line.
-#[inline]
 fn is_before(s: Spot, t: Spot) -> bool {
     s.line < t.line || (s.line == t.line && s.chars < t.chars)
 }
 
 /// Returns whether a place is in front of the one found before, if there is one.
-#[inline]
 fn is_first(first: Option<Spot>, start: Spot) -> bool {
     match first {
         None => true,
@@ -93,7 +85,6 @@ fn is_first(first: Option<Spot>, start: Spot) -> bool {
 
 /// Returns where a label begins, if it is primary and that is in front of `first`, and else
 /// `first`.
-#[inline]
 fn earlier_spot(first: Option<Spot>, label: &Label<'_>) -> Option<Spot> {
     if label.sign == '^' && is_first(first, label.extent.start) {
         Some(label.extent.start)
@@ -104,7 +95,6 @@ fn earlier_spot(first: Option<Spot>, label: &Label<'_>) -> Option<Spot> {
 
 /// Returns the first place at which a primary one of labels begins, or the start of the source
 /// without one.
-#[inline]
 pub fn first_spot(labels: &[Label<'_>]) -> Spot {
     let mut spot = None;
     for label in labels {
@@ -114,7 +104,6 @@ pub fn first_spot(labels: &[Label<'_>]) -> Spot {
 }
 
 /// Returns labels in the lines in which they begin, in the order in which they are drawn.
-#[inline]
 fn marks_of<'a>(frame: &Frame<'_>, labels: &[Label<'a>]) -> Result<Vec<Mark<'a>>, AllocError> {
     let mut list = Vec::new();
     for label in labels {
@@ -124,7 +113,6 @@ fn marks_of<'a>(frame: &Frame<'_>, labels: &[Label<'a>]) -> Result<Vec<Mark<'a>>
 }
 
 /// Returns those of labels that begin in a line.
-#[inline]
 fn in_line<'a>(number: usize, marks: &[Mark<'a>]) -> Result<Vec<Mark<'a>>, AllocError> {
     let mut list = Vec::new();
     for mark in marks {
@@ -136,7 +124,6 @@ fn in_line<'a>(number: usize, marks: &[Mark<'a>]) -> Result<Vec<Mark<'a>>, Alloc
 }
 
 /// Adds the rows between a line that was drawn, if there is one, and the next one.
-#[inline]
 fn put_gap_after(
     out: &mut String,
     frame: &Frame<'_>,
@@ -150,7 +137,6 @@ fn put_gap_after(
 }
 
 /// Adds a line and the rows under it.
-#[inline]
 fn put_line_rows(
     out: &mut String,
     frame: &Frame<'_>,
@@ -173,7 +159,6 @@ fn is_drawn(previous: Option<usize>, number: usize) -> bool {
 }
 
 /// Adds a line with labels, unless it was drawn before.
-#[inline]
 fn put_next_line(
     out: &mut String,
     frame: &Frame<'_>,
@@ -190,7 +175,6 @@ fn put_next_line(
 }
 
 /// Adds the lines of labels, which are in the order in which they are drawn.
-#[inline]
 fn put_marked_lines(
     out: &mut String,
     frame: &Frame<'_>,
@@ -205,7 +189,6 @@ fn put_marked_lines(
 }
 
 /// Adds the lines of labels, each in the line in which it begins.
-#[inline]
 fn put_each_in_line(
     out: &mut String,
     frame: &Frame<'_>,
@@ -217,7 +200,6 @@ fn put_each_in_line(
 }
 
 /// Adds the lines of a label that is alone.
-#[inline]
 fn put_single_label(
     out: &mut String,
     frame: &Frame<'_>,
@@ -232,7 +214,6 @@ fn put_single_label(
 }
 
 /// Adds the lines of labels.
-#[inline]
 pub fn put_labels_rows(
     out: &mut String,
     frame: &Frame<'_>,

@@ -4,23 +4,23 @@
 // Extracted from crates/drawn_faults/src/lib.rt by tools/extract: not to be edited.
 // That source has the contracts, and is proved. That this text means the same is only tested.
 
-#[cfg(feature = "std")]
+#[cfg(feature = "programs")]
 pub(crate) mod diagnostics;
 pub(crate) mod drawing;
-#[cfg(feature = "std")]
+#[cfg(feature = "programs")]
 pub(crate) mod helps;
 pub(crate) mod labels;
-#[cfg(feature = "std")]
+#[cfg(feature = "programs")]
 pub(crate) mod marked;
-#[cfg(feature = "std")]
+#[cfg(feature = "programs")]
 pub(crate) mod notes;
 
-#[cfg(feature = "std")]
+#[cfg(feature = "programs")]
 pub use diagnostics::{put_labels, Diagnostic, Level, SourceLabel};
 pub use drawing::draw;
-#[cfg(feature = "std")]
+#[cfg(feature = "programs")]
 pub use drawing::put_drawing;
-#[cfg(feature = "std")]
+#[cfg(feature = "programs")]
 pub use helps::SourceHelp;
-#[cfg(feature = "std")]
+#[cfg(feature = "programs")]
 pub use notes::SourceNote;

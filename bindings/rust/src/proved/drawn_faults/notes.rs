@@ -25,7 +25,6 @@ pub struct SourceNote<'a> {
 }
 
 /// Returns labels of ranges that a note shows.
-#[inline]
 fn shown_labels(
     picture: &Picture<'_>,
     spans: &[Range<usize>],
@@ -42,7 +41,6 @@ fn shown_labels(
 }
 
 /// Returns the last line that notes show, or `last` if that is further down.
-#[inline]
 pub fn last_note_line(
     picture: &Picture<'_>,
     last: usize,
@@ -57,7 +55,6 @@ pub fn last_note_line(
 }
 
 /// Adds a title, in these colours, after a word, and labels under it.
-#[inline]
 pub fn put_titled_labels(
     out: &mut String,
     frame: &Frame<'_>,
@@ -79,7 +76,6 @@ pub fn put_titled_labels(
 }
 
 /// Adds the text after a character of a note: after a line feed the margin of the next line.
-#[inline]
 fn put_margin(out: &mut String, gutter: Gutter, c: char) -> Result<(), AllocError> {
     if c == '\n' {
         put_run(out, ' ', gutter.columns)?;
@@ -89,7 +85,6 @@ fn put_margin(out: &mut String, gutter: Gutter, c: char) -> Result<(), AllocErro
 }
 
 /// Adds a text whose lines but the first one begin with a margin.
-#[inline]
 pub fn put_indented_text(out: &mut String, gutter: Gutter, text: &str) -> Result<(), AllocError> {
     let mut rest = text;
     while let Some((c, tail)) = split_first(rest) {
@@ -101,7 +96,6 @@ pub fn put_indented_text(out: &mut String, gutter: Gutter, text: &str) -> Result
 }
 
 /// Adds a note that shows nothing.
-#[inline]
 fn put_plain_note(out: &mut String, gutter: Gutter, text: &str) -> Result<(), AllocError> {
     put_note_word(out, gutter)?;
     put_indented_text(out, gutter, text)?;
@@ -110,7 +104,6 @@ fn put_plain_note(out: &mut String, gutter: Gutter, text: &str) -> Result<(), Al
 }
 
 /// Adds a note with labels for what it shows.
-#[inline]
 fn put_shown_note(
     out: &mut String,
     picture: &Picture<'_>,
@@ -131,7 +124,6 @@ fn put_shown_note(
 }
 
 /// Adds notes.
-#[inline]
 pub fn put_notes(
     out: &mut String,
     picture: &Picture<'_>,

@@ -48,7 +48,6 @@ pub fn space() -> Cell {
 }
 
 /// Puts a cell into a column of a row.
-#[inline]
 pub fn put_cell_at(row: &mut Vec<Cell>, column: usize, cell: Cell) -> Result<(), AllocError> {
     while row.len() < column {
         row.try_push(space())?;
@@ -62,7 +61,6 @@ pub fn put_cell_at(row: &mut Vec<Cell>, column: usize, cell: Cell) -> Result<(),
 }
 
 /// Puts a cell into so many columns of a row. Returns the column after them.
-#[inline]
 pub fn put_run_at(
     row: &mut Vec<Cell>,
     start: usize,
@@ -80,7 +78,6 @@ pub fn put_run_at(
 }
 
 /// Puts a space and then a text, as it is drawn, into a row from a column on.
-#[inline]
 pub fn put_spaced_text(
     row: &mut Vec<Cell>,
     start: usize,
@@ -93,7 +90,6 @@ pub fn put_spaced_text(
 }
 
 /// Puts a text, as it is drawn, into a row from a column on.
-#[inline]
 pub fn put_text_from(
     row: &mut Vec<Cell>,
     start: usize,
@@ -111,7 +107,6 @@ pub fn put_text_from(
 }
 
 /// Adds the characters of cells in their styles.
-#[inline]
 fn put_styled_cells(out: &mut String, palette: Palette, cells: &[Cell]) -> Result<(), AllocError> {
     let mut style = Style::Plain;
     for cell in cells {
@@ -124,7 +119,6 @@ fn put_styled_cells(out: &mut String, palette: Palette, cells: &[Cell]) -> Resul
 }
 
 /// Adds the characters of cells, in their styles if there are colours.
-#[inline]
 pub fn put_written_cells(
     out: &mut String,
     palette: Palette,

@@ -22,20 +22,17 @@ pub fn has_text(mark: &Mark<'_>) -> bool {
 }
 
 /// Returns whether one of two labels begins within the other.
-#[inline]
 fn is_meeting(n: &Mark<'_>, m: &Mark<'_>) -> bool {
     (m.start <= n.start && n.start < m.end) || (n.start <= m.start && m.start < n.end)
 }
 
 /// Returns whether the label `n` has no text, and the columns of `m`.
-#[inline]
 fn is_shadow(n: &Mark<'_>, m: &Mark<'_>) -> bool {
     (n.start == m.start && n.end == m.end) && !has_text(n)
 }
 
 /// Returns whether the text of a label cannot stand right of its signs, since it meets one of
 /// others.
-#[inline]
 fn is_crossed(mark: &Mark<'_>, others: &[Mark<'_>]) -> bool {
     if !has_text(mark) {
         return false;
@@ -50,7 +47,6 @@ fn is_crossed(mark: &Mark<'_>, others: &[Mark<'_>]) -> bool {
 
 /// Returns whether the text of the label `n`, right of its signs, would come within a column of
 /// `m`.
-#[inline]
 fn is_reaching(n: &Mark<'_>, m: &Mark<'_>) -> bool {
     let columns = m.start.saturating_sub(n.end).saturating_sub(1);
     has_text(n)
@@ -60,7 +56,6 @@ fn is_reaching(n: &Mark<'_>, m: &Mark<'_>) -> bool {
 
 /// Returns whether the texts of labels hang a row below that of a label right of them, which hangs
 /// `least_depth` rows below the signs.
-#[inline]
 fn is_lowering(least_depth: usize, mark: &Mark<'_>, others: &[Mark<'_>]) -> bool {
     for other in others {
         if is_reaching(other, mark)
@@ -74,7 +69,6 @@ fn is_lowering(least_depth: usize, mark: &Mark<'_>, others: &[Mark<'_>]) -> bool
 
 /// Returns how far down the text of a label hangs, where those right of it hang `least_depth` rows
 /// down.
-#[inline]
 fn depth_of(least_depth: usize, mark: &Mark<'_>, others: &[Mark<'_>]) -> usize {
     if least_depth == 0 && is_crossed(mark, others) {
         1
@@ -94,7 +88,6 @@ fn depth_after(least_depth: usize, mark: &Mark<'_>, others: &[Mark<'_>]) -> usiz
 }
 
 /// Returns the labels of a line, from right to left, with how far down they hang.
-#[inline]
 pub fn hung_labels<'a>(marks: &[Mark<'a>]) -> Result<Vec<HungLabel<'a>>, AllocError> {
     if marks.len() >= 1 << (usize::BITS - 5) {
         return crate::shim::alloc::refuse();
@@ -121,7 +114,6 @@ fn text_depth(label: &HungLabel<'_>) -> usize {
 }
 
 /// Returns how far down the texts of labels hang at most.
-#[inline]
 pub fn depth(labels: &[HungLabel<'_>]) -> usize {
     let mut max_depth = 0;
     for first in labels {

@@ -22,7 +22,6 @@ pub struct Label<'a> {
 }
 
 /// Returns a label in the line in which it begins.
-#[inline]
 pub fn mark_of<'a>(label: &Label<'a>, first: usize) -> Mark<'a> {
     let start = label.extent.start;
     let end = label.extent.end;
@@ -48,7 +47,6 @@ pub fn mark_in<'a>(frame: &Frame<'_>, label: &Label<'a>) -> Mark<'a> {
 }
 
 /// Adds a line of the source with a label.
-#[inline]
 pub fn put_labelled_line(
     out: &mut String,
     frame: &Frame<'_>,
@@ -60,7 +58,6 @@ pub fn put_labelled_line(
 }
 
 /// Adds two lines with labels, of which `m` is the first one.
-#[inline]
 fn put_lines_apart(
     out: &mut String,
     frame: &Frame<'_>,
@@ -74,7 +71,6 @@ fn put_lines_apart(
 }
 
 /// Adds the lines with two labels.
-#[inline]
 pub fn put_two_labels(
     out: &mut String,
     frame: &Frame<'_>,

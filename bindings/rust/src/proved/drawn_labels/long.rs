@@ -13,13 +13,11 @@ use crate::shim::alloc::AllocError;
 use crate::shim::prelude::*;
 
 /// Returns whether a character is a bracket.
-#[inline]
 fn is_bracket(c: char) -> bool {
     c == '(' || c == ')' || c == '[' || c == ']' || c == '{' || c == '}'
 }
 
 /// Returns whether a line with this text after `//` is a comment, but no documentation.
-#[inline]
 fn is_plain_comment(text: &str) -> bool {
     match split_first(text) {
         None => true,
@@ -28,7 +26,6 @@ fn is_plain_comment(text: &str) -> bool {
 }
 
 /// Returns whether a line with this text after `/` is a comment, but no documentation.
-#[inline]
 fn is_comment(text: &str) -> bool {
     match split_first(text) {
         None => false,
@@ -37,7 +34,6 @@ fn is_comment(text: &str) -> bool {
 }
 
 /// Returns whether a text is only white space.
-#[inline]
 fn is_blank(text: &str) -> bool {
     let mut rest = text;
     while let Some((c, tail)) = split_first(rest) {
@@ -50,7 +46,6 @@ fn is_blank(text: &str) -> bool {
 }
 
 /// Returns whether a line is blank, a comment, or one bracket.
-#[inline]
 fn is_bare(line: &str) -> bool {
     let mut rest = line;
     while let Some((c, tail)) = split_first(rest) {
@@ -72,7 +67,6 @@ fn is_bare_line(frame: &Frame<'_>, number: usize) -> bool {
 }
 
 /// Returns how many of the lines after a line are left without the bare ones at their end.
-#[inline]
 fn without_bare(frame: &Frame<'_>, first: usize, count: usize) -> usize {
     let mut lines = count;
     while lines > 0 && is_bare_line(frame, first + lines) {
@@ -82,7 +76,6 @@ fn without_bare(frame: &Frame<'_>, first: usize, count: usize) -> usize {
 }
 
 /// Adds a line of the source at the right of a sign of the label.
-#[inline]
 fn put_signed_row(
     out: &mut String,
     frame: &Frame<'_>,
@@ -104,7 +97,6 @@ fn put_bar_row(out: &mut String, frame: &Frame<'_>, number: usize) -> Result<(),
 }
 
 /// Adds so many lines after a line.
-#[inline]
 fn put_bar_rows(
     out: &mut String,
     frame: &Frame<'_>,
@@ -118,7 +110,6 @@ fn put_bar_rows(
 }
 
 /// Adds the rows between two lines of the label that are drawn.
-#[inline]
 fn put_bar_gap(
     out: &mut String,
     frame: &Frame<'_>,
@@ -137,7 +128,6 @@ fn put_bar_gap(
 }
 
 /// Adds a text, a line to a column after it, and the sign at its end.
-#[inline]
 fn put_lead(
     out: &mut String,
     palette: Palette,
@@ -153,7 +143,6 @@ fn put_lead(
 }
 
 /// Adds the row under the first line of a label.
-#[inline]
 fn put_start(out: &mut String, gutter: Gutter, columns: usize) -> Result<(), AllocError> {
     put_gutter(out, gutter)?;
     put_lead(out, gutter.palette, " ", columns)?;
@@ -162,7 +151,6 @@ fn put_start(out: &mut String, gutter: Gutter, columns: usize) -> Result<(), All
 }
 
 /// Adds the first line of a label.
-#[inline]
 fn put_first_rows(
     out: &mut String,
     frame: &Frame<'_>,
@@ -180,7 +168,6 @@ fn put_first_rows(
 }
 
 /// Adds the text of a label right of its sign, if it has one.
-#[inline]
 fn put_end_text(out: &mut String, palette: Palette, text: &str) -> Result<(), AllocError> {
     if text.is_empty() {
         return Ok(());
@@ -191,7 +178,6 @@ fn put_end_text(out: &mut String, palette: Palette, text: &str) -> Result<(), Al
 }
 
 /// Adds the row under the last line of a label.
-#[inline]
 fn put_end(out: &mut String, gutter: Gutter, columns: usize, text: &str) -> Result<(), AllocError> {
     put_gutter(out, gutter)?;
     put_lead(out, gutter.palette, "|", columns)?;
@@ -201,7 +187,6 @@ fn put_end(out: &mut String, gutter: Gutter, columns: usize, text: &str) -> Resu
 }
 
 /// Adds the last line of a label.
-#[inline]
 fn put_last_rows(out: &mut String, frame: &Frame<'_>, label: &Label<'_>) -> Result<(), AllocError> {
     let end = label.extent.end;
     let columns = end.column.saturating_sub(shift(frame, end.line)).max(1);
@@ -211,7 +196,6 @@ fn put_last_rows(out: &mut String, frame: &Frame<'_>, label: &Label<'_>) -> Resu
 }
 
 /// Adds the rows between the first and the last line of a label.
-#[inline]
 fn put_rows_between(
     out: &mut String,
     frame: &Frame<'_>,
@@ -231,7 +215,6 @@ fn put_rows_between(
 }
 
 /// Adds the lines of a label over several lines.
-#[inline]
 pub fn put_long_label(
     out: &mut String,
     frame: &Frame<'_>,

@@ -23,10 +23,10 @@ pub struct Reach {
 /// The most columns that the text of a label is counted for.
 const MAX_TEXT_LEN: usize = 1 << (usize::BITS - 4);
 
-/// Returns how many columns the text of a label is counted for, with the space in front of it.
-#[inline]
-fn text_columns(text: &str) -> usize {
-    if text.is_empty() {
+/// Returns how many columns the text of a label with this sign is counted for, with the space in
+/// front of it: that of a primary label counts only if there is one.
+fn text_columns(sign: char, text: &str) -> usize {
+    if sign == '^' && text.is_empty() {
         0
     } else {
         1 + text.len().min(MAX_TEXT_LEN)
@@ -47,7 +47,6 @@ struct MeasuredLine {
 }
 
 /// Returns the line in which a label begins, and its columns.
-#[inline]
 fn start_line(source: &str, label: &Label<'_>) -> MeasuredLine {
     let line = label.extent.start.line;
     MeasuredLine {
@@ -57,7 +56,6 @@ fn start_line(source: &str, label: &Label<'_>) -> MeasuredLine {
 }
 
 /// Returns how many columns a line of the source has. Most often it is the line `known_line`.
-#[inline]
 fn columns_of(source: &str, number: usize, known_line: MeasuredLine) -> usize {
     if number == known_line.line {
         known_line.columns
@@ -67,18 +65,16 @@ fn columns_of(source: &str, number: usize, known_line: MeasuredLine) -> usize {
 }
 
 /// Returns the reach of a label in one line.
-#[inline]
 fn mark_reach(source: &str, known_line: MeasuredLine, mark: &Mark<'_>) -> Reach {
     Reach {
         start: mark.start,
         end: mark.end,
-        text_end: mark.end + text_columns(mark.text),
+        text_end: mark.end + text_columns(mark.sign, mark.text),
         longest: columns_of(source, mark.line, known_line),
     }
 }
 
 /// Returns two reaches as one.
-#[inline]
 fn join_reaches(r: Reach, s: Reach) -> Reach {
     Reach {
         start: r.start.min(s.start),
@@ -95,7 +91,6 @@ fn is_long(label: &Label<'_>) -> bool {
 }
 
 /// Returns the reach of a label over several lines.
-#[inline]
 fn long_reach(source: &str, label: &Label<'_>) -> Reach {
     let start = label.extent.start;
     let end = label.extent.end;
@@ -108,7 +103,7 @@ fn long_reach(source: &str, label: &Label<'_>) -> Reach {
     Reach {
         start: first_column,
         end: end.column.max(start.column + 1),
-        text_end: (end.column + text_columns(label.text)).max(start.column + 1),
+        text_end: (end.column + text_columns(label.sign, label.text)).max(start.column + 1),
         longest: first.max(line_columns(source, end.line)),
     }
 }
@@ -120,7 +115,6 @@ fn short_reach(source: &str, known_line: MeasuredLine, label: &Label<'_>) -> Rea
 }
 
 /// Returns the reach of labels, each in the line in which it begins, and of `first`.
-#[inline]
 fn reach_on(source: &str, known_line: MeasuredLine, first: Reach, labels: &[Label<'_>]) -> Reach {
     let mut reach = first;
     for label in labels {
@@ -130,7 +124,6 @@ fn reach_on(source: &str, known_line: MeasuredLine, first: Reach, labels: &[Labe
 }
 
 /// Returns the reach of labels.
-#[inline]
 fn reach_of(source: &str, labels: &[Label<'_>]) -> Reach {
     match labels {
         [] => Reach {
@@ -159,7 +152,6 @@ fn reach_of(source: &str, labels: &[Label<'_>]) -> Reach {
 }
 
 /// Returns how many columns are left beside what is in front of a line of the source.
-#[inline]
 fn room(columns: usize, labels: &[Label<'_>]) -> usize {
     match labels {
         [label] => columns.saturating_sub(if is_long(label) { 5 } else { 3 }),
@@ -188,7 +180,6 @@ fn window_at(start: usize, columns: usize) -> Window {
 }
 
 /// Returns the window around labels, of lines that do not fit into `room` columns.
-#[inline]
 fn window_around(room: usize, indent: usize, reach: Reach) -> Window {
     let start = reach.start.saturating_sub(6);
     let texts = (reach.text_end + 6).saturating_sub(start);
@@ -206,7 +197,6 @@ fn window_around(room: usize, indent: usize, reach: Reach) -> Window {
 }
 
 /// Returns the window of so much room for lines with labels of a reach and an indent.
-#[inline]
 fn window(room: usize, indent: usize, reach: Reach) -> Window {
     let start = cut_of(indent);
     let limit = reach.longest.saturating_sub(start);
@@ -217,7 +207,6 @@ fn window(room: usize, indent: usize, reach: Reach) -> Window {
 }
 
 /// Returns the window for labels, of lines with this indent.
-#[inline]
 pub fn window_of(
     picture: &Picture<'_>,
     gutter: Gutter,

@@ -16,7 +16,6 @@ use crate::shim::alloc::AllocError;
 use crate::shim::prelude::*;
 
 /// Puts the text of a label that stands right of its signs into a row.
-#[inline]
 fn put_side_text(row: &mut Vec<Cell>, label: &HungLabel<'_>) -> Result<(), AllocError> {
     let mark = &label.mark;
     if has_text(mark) && label.depth == 0 {
@@ -26,7 +25,6 @@ fn put_side_text(row: &mut Vec<Cell>, label: &HungLabel<'_>) -> Result<(), Alloc
 }
 
 /// Puts the texts of labels that stand right of their signs into a row.
-#[inline]
 fn put_side_texts(row: &mut Vec<Cell>, labels: &[HungLabel<'_>]) -> Result<(), AllocError> {
     for first in labels {
         put_side_text(row, first)?;
@@ -35,7 +33,6 @@ fn put_side_texts(row: &mut Vec<Cell>, labels: &[HungLabel<'_>]) -> Result<(), A
 }
 
 /// Puts the signs of a label into a row.
-#[inline]
 fn put_signs_of(row: &mut Vec<Cell>, mark: &Mark<'_>) -> Result<(), AllocError> {
     let style = style_of(mark);
     let character = mark.sign;
@@ -45,7 +42,6 @@ fn put_signs_of(row: &mut Vec<Cell>, mark: &Mark<'_>) -> Result<(), AllocError> 
 }
 
 /// Puts the signs of labels into a row, each over those before it.
-#[inline]
 fn put_signs(row: &mut Vec<Cell>, marks: &[Mark<'_>]) -> Result<(), AllocError> {
     for mark in marks {
         put_signs_of(row, mark)?;
@@ -54,7 +50,6 @@ fn put_signs(row: &mut Vec<Cell>, marks: &[Mark<'_>]) -> Result<(), AllocError> 
 }
 
 /// Returns the row of signs of labels, with the texts right of them.
-#[inline]
 fn sign_row(marks: &[Mark<'_>], labels: &[HungLabel<'_>]) -> Result<Vec<Cell>, AllocError> {
     let mut row = Vec::new();
     put_side_texts(&mut row, labels)?;
@@ -64,7 +59,6 @@ fn sign_row(marks: &[Mark<'_>], labels: &[HungLabel<'_>]) -> Result<Vec<Cell>, A
 }
 
 /// Puts the bar of a label that hangs more than `n` rows down into a row.
-#[inline]
 fn put_bar(row: &mut Vec<Cell>, n: usize, label: &HungLabel<'_>) -> Result<(), AllocError> {
     if has_text(&label.mark) && n < label.depth {
         let style = style_of(&label.mark);
@@ -75,7 +69,6 @@ fn put_bar(row: &mut Vec<Cell>, n: usize, label: &HungLabel<'_>) -> Result<(), A
 }
 
 /// Puts the bars of labels into the row with `n` rows between it and the signs.
-#[inline]
 fn put_bars(row: &mut Vec<Cell>, n: usize, labels: &[HungLabel<'_>]) -> Result<(), AllocError> {
     for first in labels {
         put_bar(row, n, first)?;
@@ -84,7 +77,6 @@ fn put_bars(row: &mut Vec<Cell>, n: usize, labels: &[HungLabel<'_>]) -> Result<(
 }
 
 /// Puts the text of a label that hangs `n` rows down into a row.
-#[inline]
 fn put_hung_text(row: &mut Vec<Cell>, n: usize, label: &HungLabel<'_>) -> Result<(), AllocError> {
     let mark = &label.mark;
     if has_text(mark) && label.depth > 0 && n == label.depth {
@@ -94,7 +86,6 @@ fn put_hung_text(row: &mut Vec<Cell>, n: usize, label: &HungLabel<'_>) -> Result
 }
 
 /// Puts the texts of labels that hang `n` rows down into a row.
-#[inline]
 fn put_hung_texts(
     row: &mut Vec<Cell>,
     n: usize,
@@ -107,7 +98,6 @@ fn put_hung_texts(
 }
 
 /// Returns the row with `n` rows between it and the signs.
-#[inline]
 fn hung_row(n: usize, labels: &[HungLabel<'_>]) -> Result<Vec<Cell>, AllocError> {
     let mut row = Vec::new();
     put_bars(&mut row, n, labels)?;
@@ -116,7 +106,6 @@ fn hung_row(n: usize, labels: &[HungLabel<'_>]) -> Result<Vec<Cell>, AllocError>
 }
 
 /// Adds a row under a line.
-#[inline]
 fn put_row(out: &mut String, gutter: Gutter, row: &[Cell]) -> Result<(), AllocError> {
     put_gutter(out, gutter)?;
     put_written_cells(out, gutter.palette, row)?;
@@ -125,7 +114,6 @@ fn put_row(out: &mut String, gutter: Gutter, row: &[Cell]) -> Result<(), AllocEr
 }
 
 /// Adds so many rows below the signs.
-#[inline]
 fn put_hung_rows(
     out: &mut String,
     gutter: Gutter,
@@ -140,7 +128,6 @@ fn put_hung_rows(
 }
 
 /// Adds the rows below the signs, of labels that hang as far down as `max_depth`.
-#[inline]
 fn put_rows_below(
     out: &mut String,
     gutter: Gutter,
@@ -157,7 +144,6 @@ fn put_rows_below(
 }
 
 /// Adds the rows of hung labels.
-#[inline]
 fn put_rows_of(
     out: &mut String,
     gutter: Gutter,
@@ -171,7 +157,6 @@ fn put_rows_of(
 }
 
 /// Adds the rows under a line, of labels in it from right to left.
-#[inline]
 pub fn put_mark_rows(
     out: &mut String,
     gutter: Gutter,

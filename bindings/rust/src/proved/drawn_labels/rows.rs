@@ -13,7 +13,6 @@ use crate::shim::alloc::AllocError;
 use crate::shim::prelude::*;
 
 /// Returns the sign in a column under two labels, of which `m` covers `n`.
-#[inline]
 fn sign_at(m: &Mark<'_>, n: &Mark<'_>, column: usize) -> Cell {
     if m.start <= column && column < m.end {
         let (character, style) = (m.sign, style_of(m));
@@ -27,7 +26,6 @@ fn sign_at(m: &Mark<'_>, n: &Mark<'_>, column: usize) -> Cell {
 }
 
 /// Adds the first columns of a row of signs, where `m` covers `n`, in colours.
-#[inline]
 fn put_coloured_signs(
     out: &mut String,
     palette: Palette,
@@ -44,7 +42,6 @@ fn put_coloured_signs(
 }
 
 /// Adds the first columns of a row of signs, where `m` covers `n`.
-#[inline]
 fn put_signs(
     out: &mut String,
     palette: Palette,
@@ -64,7 +61,6 @@ fn put_signs(
 }
 
 /// Adds the first columns of a row with the bar of a label.
-#[inline]
 fn put_bars(
     out: &mut String,
     palette: Palette,
@@ -82,14 +78,12 @@ fn put_bars(
 }
 
 /// Adds the text of a label.
-#[inline]
 fn put_label_text(out: &mut String, palette: Palette, m: &Mark<'_>) -> Result<(), AllocError> {
     put_painted_glyphs(out, palette, text_style(m), m.text)?;
     Ok(())
 }
 
 /// Adds the signs of a label and its text after them.
-#[inline]
 fn put_pointed_text(out: &mut String, palette: Palette, m: &Mark<'_>) -> Result<(), AllocError> {
     let columns = m.end.saturating_sub(m.start);
     put_painted_run(out, palette, style_of(m), m.sign, columns)?;
@@ -99,7 +93,6 @@ fn put_pointed_text(out: &mut String, palette: Palette, m: &Mark<'_>) -> Result<
 }
 
 /// Adds a label that is alone, from the first column on.
-#[inline]
 fn put_lone_mark(out: &mut String, palette: Palette, m: &Mark<'_>) -> Result<(), AllocError> {
     put_run(out, ' ', m.start)?;
     put_pointed_text(out, palette, m)?;
@@ -107,7 +100,6 @@ fn put_lone_mark(out: &mut String, palette: Palette, m: &Mark<'_>) -> Result<(),
 }
 
 /// Adds the row of a label that is alone in its line.
-#[inline]
 pub fn put_lone_row(out: &mut String, gutter: Gutter, m: &Mark<'_>) -> Result<(), AllocError> {
     put_gutter(out, gutter)?;
     put_lone_mark(out, gutter.palette, m)?;
@@ -116,7 +108,6 @@ pub fn put_lone_row(out: &mut String, gutter: Gutter, m: &Mark<'_>) -> Result<()
 }
 
 /// Adds a row with the bar of a label.
-#[inline]
 fn put_bar_alone(out: &mut String, gutter: Gutter, m: &Mark<'_>) -> Result<(), AllocError> {
     put_gutter(out, gutter)?;
     put_run(out, ' ', m.start)?;
@@ -126,7 +117,6 @@ fn put_bar_alone(out: &mut String, gutter: Gutter, m: &Mark<'_>) -> Result<(), A
 }
 
 /// Adds a row with the text of a label.
-#[inline]
 fn put_text_alone(out: &mut String, gutter: Gutter, m: &Mark<'_>) -> Result<(), AllocError> {
     put_gutter(out, gutter)?;
     put_run(out, ' ', m.start)?;
@@ -136,7 +126,6 @@ fn put_text_alone(out: &mut String, gutter: Gutter, m: &Mark<'_>) -> Result<(), 
 }
 
 /// Returns the style of the bar of the label `r`, where there is one of `l` too.
-#[inline]
 fn bar_style(l: &Mark<'_>, r: &Mark<'_>) -> Style {
     if l.start < r.start {
         style_of(r)
@@ -146,7 +135,6 @@ fn bar_style(l: &Mark<'_>, r: &Mark<'_>) -> Style {
 }
 
 /// Adds a row with the bars of two labels.
-#[inline]
 fn put_two_bars(
     out: &mut String,
     gutter: Gutter,
@@ -161,7 +149,6 @@ fn put_two_bars(
 }
 
 /// Adds a row with the bar of the label `l`, and the text of `r`.
-#[inline]
 fn put_bar_and_text(
     out: &mut String,
     gutter: Gutter,
@@ -176,14 +163,12 @@ fn put_bar_and_text(
 }
 
 /// Returns whether the label `m` is covered by the label `n`.
-#[inline]
 pub fn is_covered(m: &Mark<'_>, n: &Mark<'_>) -> bool {
     let (covered_width, width) = (m.end.saturating_sub(m.start), n.end.saturating_sub(n.start));
     width < covered_width || (width == covered_width && m.sign < n.sign)
 }
 
 /// Adds the signs of two labels that overlap, of which `l` begins first.
-#[inline]
 fn put_covering_signs(
     out: &mut String,
     palette: Palette,
@@ -200,7 +185,6 @@ fn put_covering_signs(
 }
 
 /// Adds the row of these signs.
-#[inline]
 fn put_covering_row(
     out: &mut String,
     gutter: Gutter,
@@ -214,7 +198,6 @@ fn put_covering_row(
 }
 
 /// Adds the rows of two labels that overlap, of which `l` begins first.
-#[inline]
 fn put_overlapping_rows(
     out: &mut String,
     gutter: Gutter,
@@ -229,7 +212,6 @@ fn put_overlapping_rows(
 }
 
 /// Adds the row of the signs of two labels beside each other, with the text of the second one.
-#[inline]
 fn put_signs_and_text(
     out: &mut String,
     gutter: Gutter,
@@ -245,7 +227,6 @@ fn put_signs_and_text(
 }
 
 /// Adds the rows of two labels, of which the text of the first one, `l`, hangs.
-#[inline]
 fn put_hanging_rows(
     out: &mut String,
     gutter: Gutter,
@@ -259,14 +240,12 @@ fn put_hanging_rows(
 }
 
 /// Returns how many columns are between the text of the label `l` and the label `r`.
-#[inline]
 fn columns_between(l: &Mark<'_>, r: &Mark<'_>) -> usize {
     let rest_after = r.start.saturating_sub(l.end);
     rest_after.saturating_sub(1).saturating_sub(l.text.len())
 }
 
 /// Adds the row of two labels beside each other, of which `l` is the first one.
-#[inline]
 fn put_rows_beside(
     out: &mut String,
     gutter: Gutter,
@@ -282,7 +261,6 @@ fn put_rows_beside(
 }
 
 /// Adds the rows of two labels, of which `l` begins first.
-#[inline]
 fn put_pair(
     out: &mut String,
     gutter: Gutter,
@@ -300,7 +278,6 @@ fn put_pair(
 }
 
 /// Adds the rows of two labels in a line.
-#[inline]
 pub fn put_both_rows(
     out: &mut String,
     gutter: Gutter,

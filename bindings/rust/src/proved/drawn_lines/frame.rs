@@ -26,7 +26,6 @@ pub fn line_indent(picture: &Picture<'_>, number: usize) -> Option<usize> {
 }
 
 /// Returns the number of digits of a number.
-#[inline]
 pub fn digits(number: usize) -> usize {
     let mut rest = number;
     let mut count = 1;

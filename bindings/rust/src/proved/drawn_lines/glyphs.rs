@@ -13,7 +13,6 @@ use crate::shim::prelude::*;
 use crate::shim::unicode_width::UnicodeWidthChar;
 
 /// Returns the first character and the text after it, or `None` if the text is empty.
-#[inline]
 pub fn split_first(text: &str) -> Option<(char, &str)> {
     let mut rest = text.chars();
     let c = rest.next()?;
@@ -21,7 +20,6 @@ pub fn split_first(text: &str) -> Option<(char, &str)> {
 }
 
 /// Returns whether a character has Unicode's property `Bidi_Control`.
-#[inline]
 fn is_bidi_control(c: char) -> bool {
     matches!(
         c,
@@ -30,7 +28,6 @@ fn is_bidi_control(c: char) -> bool {
 }
 
 /// Returns the character that is drawn for a character.
-#[inline]
 pub fn glyph(c: char) -> char {
     match c {
         '\t' => ' ',
@@ -54,7 +51,6 @@ pub fn glyph_count(c: char) -> usize {
 }
 
 /// Returns how many columns a character takes.
-#[inline]
 pub fn width(c: char) -> usize {
     match c {
         '\t' => 4,
@@ -65,7 +61,6 @@ pub fn width(c: char) -> usize {
 
 /// Returns how many columns of the first line of a text are its indent, or `None` if that line is
 /// blank. Reads no further than that line's first character that is no white space.
-#[inline]
 pub fn indent(text: &str) -> Option<usize> {
     let mut rest = text;
     let mut columns = 0;
@@ -83,7 +78,6 @@ pub fn indent(text: &str) -> Option<usize> {
 }
 
 /// Returns whether nothing is drawn of a text.
-#[inline]
 pub fn draws_nothing(text: &str) -> bool {
     let mut rest = text;
     while let Some((c, tail)) = split_first(rest) {
@@ -109,7 +103,6 @@ fn spaces(count: usize) -> &'static str {
 }
 
 /// Adds spaces.
-#[inline]
 fn put_spaces(out: &mut String, count: usize) -> Result<(), AllocError> {
     let mut countdown = count;
     while countdown > 0 {
@@ -121,7 +114,6 @@ fn put_spaces(out: &mut String, count: usize) -> Result<(), AllocError> {
 }
 
 /// Adds a character again and again.
-#[inline]
 pub fn put_run(out: &mut String, c: char, count: usize) -> Result<(), AllocError> {
     if c == ' ' {
         return Ok(put_spaces(out, count)?);
@@ -134,7 +126,6 @@ pub fn put_run(out: &mut String, c: char, count: usize) -> Result<(), AllocError
 
 /// Adds the printable prefix of a text, without its first `count` characters. Returns what is
 /// after the prefix, and how many characters are still to skip.
-#[inline]
 fn put_printable<'a>(
     out: &mut String,
     text: &'a str,
@@ -148,7 +139,6 @@ fn put_printable<'a>(
 
 /// Adds a prefix of a text that is drawn as it is, without its first `count` characters. Returns
 /// what is after the prefix, and how many characters are still to skip.
-#[inline]
 fn put_as_is<'a>(
     out: &mut String,
     text: &'a str,
@@ -166,7 +156,6 @@ fn put_as_is<'a>(
 /// `out`: a tab becomes four spaces, another control character of ASCII but the line feed its
 /// picture, U+200D nothing, and a control character from U+0080 on and one that changes the
 /// direction of text U+FFFD.
-#[inline]
 pub fn put_glyphs(out: &mut String, text: &str, count: usize) -> Result<(), AllocError> {
     let (front, rest_after) = split_printable(text, text.len());
     if count == 0 && rest_after.is_empty() {
@@ -184,7 +173,6 @@ pub fn put_glyphs(out: &mut String, text: &str, count: usize) -> Result<(), Allo
 }
 
 /// Adds a text as it is drawn, in a style.
-#[inline]
 pub fn put_painted_glyphs(
     out: &mut String,
     palette: Palette,
@@ -203,7 +191,6 @@ pub fn put_painted_glyphs(
 }
 
 /// Adds a character again and again, in a style.
-#[inline]
 pub fn put_painted_run(
     out: &mut String,
     palette: Palette,
@@ -221,7 +208,6 @@ pub fn put_painted_run(
 
 /// Adds a text as it is drawn, in the style `new`, where a text of the style `old` is before
 /// it. Returns the style of the last text that is drawn.
-#[inline]
 pub fn put_glyphs_after(
     out: &mut String,
     palette: Palette,

@@ -15,7 +15,6 @@ use crate::shim::itoa::Buffer;
 use crate::shim::prelude::*;
 
 /// Adds a number in decimal digits.
-#[inline]
 pub fn put_decimal(out: &mut String, number: usize) -> Result<(), AllocError> {
     let mut digits = Buffer::new();
     out.try_push_str(digits.format(number))?;
@@ -23,7 +22,6 @@ pub fn put_decimal(out: &mut String, number: usize) -> Result<(), AllocError> {
 }
 
 /// Adds the gutter of a row that has no number.
-#[inline]
 pub fn put_blank(out: &mut String, gutter: Gutter) -> Result<(), AllocError> {
     put_run(out, ' ', gutter.columns)?;
     put_gutter_bar(out, gutter.palette)?;
@@ -31,7 +29,6 @@ pub fn put_blank(out: &mut String, gutter: Gutter) -> Result<(), AllocError> {
 }
 
 /// Adds the gutter of a row under a line, and the space after it.
-#[inline]
 pub fn put_gutter(out: &mut String, gutter: Gutter) -> Result<(), AllocError> {
     put_blank(out, gutter)?;
     out.try_push_str(" ")?;
@@ -39,7 +36,6 @@ pub fn put_gutter(out: &mut String, gutter: Gutter) -> Result<(), AllocError> {
 }
 
 /// Adds the row between two parts of the drawing.
-#[inline]
 pub fn put_parting(out: &mut String, frame: &Frame<'_>) -> Result<(), AllocError> {
     put_blank(out, frame.gutter)?;
     out.try_push_str("\n")?;
@@ -47,7 +43,6 @@ pub fn put_parting(out: &mut String, frame: &Frame<'_>) -> Result<(), AllocError
 }
 
 /// Adds the number of a line of the source, at the right of its gutter.
-#[inline]
 pub fn put_line_number(out: &mut String, frame: &Frame<'_>, line: usize) -> Result<(), AllocError> {
     let number = frame.picture.line_start as usize + line;
     put_opening(out, frame.gutter.palette, Style::Secondary)?;
@@ -62,7 +57,6 @@ pub fn put_line_number(out: &mut String, frame: &Frame<'_>, line: usize) -> Resu
 }
 
 /// Adds the number of a line of the source, and the bar after it.
-#[inline]
 pub fn put_number_bar(out: &mut String, frame: &Frame<'_>, line: usize) -> Result<(), AllocError> {
     put_line_number(out, frame, line)?;
     put_gutter_bar(out, frame.gutter.palette)?;
@@ -70,7 +64,6 @@ pub fn put_number_bar(out: &mut String, frame: &Frame<'_>, line: usize) -> Resul
 }
 
 /// Adds the text after a bar: a line, after a text in front of it.
-#[inline]
 fn put_after_bar(
     out: &mut String,
     palette: Palette,
@@ -86,7 +79,6 @@ fn put_after_bar(
 }
 
 /// Adds a line of the source, after a text in front of it.
-#[inline]
 pub fn put_source_line(
     out: &mut String,
     frame: &Frame<'_>,
@@ -100,7 +92,6 @@ pub fn put_source_line(
 }
 
 /// Adds a line of the source with its number, after a text in front of it.
-#[inline]
 pub fn put_source(
     out: &mut String,
     frame: &Frame<'_>,
@@ -120,7 +111,6 @@ pub fn put_code(out: &mut String, frame: &Frame<'_>, number: usize) -> Result<()
 }
 
 /// Adds the rows between two lines with labels.
-#[inline]
 pub fn put_gap(
     out: &mut String,
     frame: &Frame<'_>,

@@ -67,7 +67,6 @@ pub fn has_colours(palette: Palette) -> bool {
 }
 
 /// Returns the escapes that set the colour of a level.
-#[inline]
 fn level_escape(palette: Palette) -> &'static str {
     match palette {
         Palette::Colourless => "",
@@ -78,7 +77,6 @@ fn level_escape(palette: Palette) -> &'static str {
 }
 
 /// Returns the escapes that set a style.
-#[inline]
 pub fn escape(palette: Palette, style: Style) -> &'static str {
     match style {
         Style::Plain => "",
@@ -92,7 +90,6 @@ pub fn escape(palette: Palette, style: Style) -> &'static str {
 }
 
 /// Returns a number of a style.
-#[inline]
 pub fn rank(style: Style) -> u8 {
     match style {
         Style::Plain => 0,
@@ -108,7 +105,6 @@ pub fn rank(style: Style) -> u8 {
 }
 
 /// Adds the escape that ends a style, if it has one.
-#[inline]
 pub fn put_reset(out: &mut String, style: Style) -> Result<(), AllocError> {
     if rank(style) != 0 {
         out.try_push_str("\u{1b}[0m")?;
@@ -117,7 +113,6 @@ pub fn put_reset(out: &mut String, style: Style) -> Result<(), AllocError> {
 }
 
 /// Adds the escapes between a text of one style and a text of another.
-#[inline]
 pub fn put_change(
     out: &mut String,
     palette: Palette,
@@ -133,7 +128,6 @@ pub fn put_change(
 }
 
 /// Adds a text in a style, without its end.
-#[inline]
 pub fn put_sign(
     out: &mut String,
     palette: Palette,
@@ -192,7 +186,6 @@ pub fn put_gutter_bar(out: &mut String, palette: Palette) -> Result<(), AllocErr
 }
 
 /// Adds the start of a note, after the columns of the gutter.
-#[inline]
 pub fn put_note_sign(out: &mut String, palette: Palette) -> Result<(), AllocError> {
     match palette {
         Palette::Colourless => out.try_push_str(" = note: ")?,

@@ -38,7 +38,6 @@ pub const ORIGIN: Spot = Spot {
 };
 
 /// Returns the place after a character.
-#[inline]
 fn spot_past(spot: Spot, c: char) -> Spot {
     if c == '\n' {
         return Spot {
@@ -57,7 +56,6 @@ fn spot_past(spot: Spot, c: char) -> Spot {
 }
 
 /// Returns the place after printable characters.
-#[inline]
 fn past_printable(spot: Spot, front: &str) -> Spot {
     Spot {
         line: spot.line,
@@ -79,7 +77,6 @@ struct Rest<'a> {
 }
 
 /// Passes the printable characters at the start of a text that end within `width` bytes.
-#[inline]
 fn pass_printable(start: Spot, text: &str, width: usize) -> Rest<'_> {
     let (front, rest) = split_printable(text, width);
     Rest {
@@ -90,7 +87,6 @@ fn pass_printable(start: Spot, text: &str, width: usize) -> Rest<'_> {
 }
 
 /// Passes the characters of a text that end within `width` bytes.
-#[inline]
 fn pass(start: Spot, text: &str, width: usize) -> Rest<'_> {
     let mut at = start;
     let mut rest = text;
@@ -117,7 +113,6 @@ fn pass(start: Spot, text: &str, width: usize) -> Rest<'_> {
 }
 
 /// Returns the first line of a text, and the rest of the text after that line.
-#[inline]
 pub fn split_line(text: &str) -> (&str, &str) {
     match text.split_once('\n') {
         Some((line, rest)) => (line, rest),
@@ -126,7 +121,6 @@ pub fn split_line(text: &str) -> (&str, &str) {
 }
 
 /// Returns the rest of a text after its first lines.
-#[inline]
 pub fn after_lines(text: &str, count: usize) -> &str {
     let mut rest = text;
     let mut countdown = count;
@@ -146,7 +140,6 @@ pub fn line(text: &str, number: usize) -> &str {
 }
 
 /// Returns the byte offsets in the source at which a range of the literal begins and ends.
-#[inline]
 pub fn offsets(picture: &Picture<'_>, range: &Range<usize>) -> (usize, usize) {
     let length = picture.source.len();
     let from = picture
@@ -158,7 +151,6 @@ pub fn offsets(picture: &Picture<'_>, range: &Range<usize>) -> (usize, usize) {
 }
 
 /// Returns where a range of the literal begins and ends.
-#[inline]
 pub fn extent_of(picture: &Picture<'_>, range: &Range<usize>) -> Extent {
     let (from, to) = offsets(picture, range);
     let start_rest = pass(ORIGIN, picture.source, from);

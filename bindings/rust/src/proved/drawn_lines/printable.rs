@@ -49,7 +49,6 @@ const PRINTABLE: Stops = Stops {
 
 /// Returns the longest prefix of at most `limit` characters that are printable, and what is after
 /// it.
-#[inline]
 pub fn split_printable(text: &str, limit: usize) -> (&str, &str) {
     let bytes = text.as_bytes();
     let width = front_width(&bytes[..bytes.len().min(limit)], PRINTABLE);
@@ -57,7 +56,6 @@ pub fn split_printable(text: &str, limit: usize) -> (&str, &str) {
 }
 
 /// Returns a prefix of a text that is drawn as it is, and what is after it.
-#[inline]
 pub fn split_as_is(text: &str) -> (&str, &str) {
     let width = text.boundary_at_most(front_width(text.as_bytes(), AS_IS));
     text.split_at(width)

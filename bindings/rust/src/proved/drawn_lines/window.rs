@@ -26,7 +26,6 @@ pub struct Window {
 }
 
 /// Returns how many columns a text takes.
-#[inline]
 pub fn columns(text: &str) -> usize {
     let (front, rest_after) = split_printable(text, text.len());
     let mut count = front.len();
@@ -48,7 +47,6 @@ struct Cut<'a> {
 }
 
 /// Returns a text without its first `count` columns.
-#[inline]
 fn past_columns(text: &str, count: usize) -> Cut<'_> {
     let mut rest = text;
     let mut countdown = count;
@@ -75,7 +73,6 @@ struct Countdown {
 
 /// Leaves out up to `count` columns of a character that stands `times` times at the start of a
 /// text.
-#[inline]
 fn left_out_of_run(count: usize, times: usize, character: char) -> Countdown {
     let mut countdown = count;
     let mut columns = 0;
@@ -93,7 +90,6 @@ fn left_out_of_run(count: usize, times: usize, character: char) -> Countdown {
 
 /// Returns how many columns are left out if the first `count` columns of a text, as it is drawn,
 /// are.
-#[inline]
 fn left_out_columns(text: &str, count: usize) -> usize {
     let mut rest = text;
     let mut countdown = count;
@@ -111,7 +107,6 @@ fn left_out_columns(text: &str, count: usize) -> usize {
 }
 
 /// Returns how many columns at the start of a line of the source are cut.
-#[inline]
 pub fn shift(frame: &Frame<'_>, number: usize) -> usize {
     if frame.window.start == 0 {
         return 0;
@@ -120,7 +115,6 @@ pub fn shift(frame: &Frame<'_>, number: usize) -> usize {
 }
 
 /// Adds the first characters of a text, as many as end within `count` columns.
-#[inline]
 fn put_front_columns(out: &mut String, text: &str, count: usize) -> Result<(), AllocError> {
     let mut rest = text;
     let mut countdown = count;
@@ -136,7 +130,6 @@ fn put_front_columns(out: &mut String, text: &str, count: usize) -> Result<(), A
 }
 
 /// Adds the part of a line in the window.
-#[inline]
 fn put_in_window(
     out: &mut String,
     window: Window,
@@ -154,7 +147,6 @@ fn put_in_window(
 
 /// Adds the dots over the first characters of a part of a line, if the line is cut in front of it.
 /// Returns the rest of the part.
-#[inline]
 fn put_dots_before<'a>(
     out: &mut String,
     palette: Palette,
@@ -171,7 +163,6 @@ fn put_dots_before<'a>(
 }
 
 /// Adds this rest, with dots over its last characters if the line goes on.
-#[inline]
 fn put_up_to_dots(
     out: &mut String,
     palette: Palette,
@@ -187,7 +178,6 @@ fn put_up_to_dots(
 }
 
 /// Adds a part of a line.
-#[inline]
 fn put_dotted_part(
     out: &mut String,
     palette: Palette,
@@ -201,7 +191,6 @@ fn put_dotted_part(
 }
 
 /// Adds a line, of which this is the text that is drawn, cut to the window.
-#[inline]
 fn put_cut(
     out: &mut String,
     palette: Palette,
@@ -222,7 +211,6 @@ fn put_cut(
 }
 
 /// Adds a line as it is drawn.
-#[inline]
 pub fn put_shown_line(
     out: &mut String,
     palette: Palette,

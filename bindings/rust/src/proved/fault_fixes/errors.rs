@@ -17,7 +17,6 @@ struct Errors {
 }
 
 /// Adds the errors of faults.
-#[inline]
 fn add_each(errors: &mut Errors, faults: &[Fault<'_>]) -> Result<(), AllocError> {
     for fault in faults {
         let error = fault.error()?;
@@ -32,7 +31,6 @@ fn add_each(errors: &mut Errors, faults: &[Fault<'_>]) -> Result<(), AllocError>
 
 /// Makes a call of a parser, and adds the errors of its faults. `faults` is empty before and after
 /// the call.
-#[inline]
 fn add_next<'a>(
     errors: &mut Errors,
     parser: &mut Parser<'a>,
@@ -46,7 +44,6 @@ fn add_next<'a>(
 }
 
 /// Returns errors as one list.
-#[inline]
 fn into_list(errors: Errors) -> Result<Vec<ParseError>, AllocError> {
     let mut list = errors.front_errors;
     let mut back_errors = errors.back_errors;
@@ -58,7 +55,6 @@ fn into_list(errors: Errors) -> Result<Vec<ParseError>, AllocError> {
 /// Returns the errors of all calls of a parser up to the end of an input, in its order. The
 /// arguments are those of [`Parser::new`]. The time grows with the input, whereas a parser moves
 /// all errors that it has where one is put before them.
-#[inline]
 pub fn errors_of(
     input: &str,
     style: Option<usize>,

@@ -31,7 +31,6 @@ pub struct FixedLiteral {
 
 /// Returns whether a suggestion is made in a mode. The compiler makes none for a template of
 /// assembly, and where no placeholder may have a specification, none leads to one.
-#[inline]
 pub fn is_offered(mode: ParseMode, suggestion: &Suggestion) -> bool {
     match mode {
         ParseMode::Format | ParseMode::Diagnostic => true,
@@ -41,7 +40,6 @@ pub fn is_offered(mode: ParseMode, suggestion: &Suggestion) -> bool {
 }
 
 /// Returns the edit of a suggestion, or `None` if it has none or needs the arguments of the call.
-#[inline]
 fn edit_of(suggestion: &Suggestion) -> Option<Edit<'_>> {
     match suggestion {
         Suggestion::RemoveRawIdent(span) => Some(Edit {
@@ -80,7 +78,6 @@ fn offered_edit(mode: ParseMode, suggestion: &Suggestion) -> Option<Edit<'_>> {
 ///
 /// The errors are in the order of a parser, in which each error that has an edit comes before those
 /// of earlier places. An edit that does not start after the end of the one before it is left out.
-#[inline]
 pub fn edits<'e>(mode: ParseMode, errors: &'e [ParseError]) -> Result<Vec<Edit<'e>>, AllocError> {
     let mut edits = Vec::new();
     let mut end = 0;
@@ -121,7 +118,6 @@ struct EditProgress<'t> {
 
 /// Makes the edit of a suggestion in a mode, if it has one that starts after the end of the last
 /// one.
-#[inline]
 fn make(
     progress: &mut EditProgress<'_>,
     mode: ParseMode,
@@ -145,7 +141,6 @@ fn make(
 }
 
 /// Makes the edits of faults in a mode, the first one first.
-#[inline]
 fn make_each(
     progress: &mut EditProgress<'_>,
     mode: ParseMode,
@@ -160,7 +155,6 @@ fn make_each(
 
 /// Makes a call of a parser, and the edits of its faults in a mode. `faults` is empty before and
 /// after the call.
-#[inline]
 fn make_next<'a>(
     progress: &mut EditProgress<'_>,
     mode: ParseMode,
@@ -184,7 +178,6 @@ struct AllEdits {
 
 /// Returns a text with the edits, in a mode, of all errors that the calls of a parser find, which
 /// has none yet. The text starts at the byte offset `at`.
-#[inline]
 fn edit_all(
     mode: ParseMode,
     parser: &mut Parser<'_>,
@@ -218,7 +211,6 @@ fn text_of(bytes: Vec<u8>) -> Option<String> {
 
 /// Returns the literal of an input with the edits of its errors, or `None` if it has none or is
 /// then not UTF-8.
-#[inline]
 fn edited_literal(
     input: &str,
     style: Option<usize>,
@@ -236,7 +228,6 @@ fn edited_literal(
 }
 
 /// Returns an input with the edits of its errors, or `None` if it is then not UTF-8.
-#[inline]
 fn edited_text(input: &str, mode: ParseMode) -> Result<Option<String>, AllocError> {
     let mut parser = Parser::new(input, None, None, false, mode)?;
     let AllEdits { bytes, .. } = edit_all(mode, &mut parser, input, 1)?;
@@ -249,7 +240,6 @@ fn edited_text(input: &str, mode: ParseMode) -> Result<Option<String>, AllocErro
 /// Returns `None` if the snippet is not the source literal of the input, so that no edit is made in
 /// a foreign literal, if there is no edit, or if the literal with its edits would not stand for the
 /// text with its own.
-#[inline]
 pub fn round(
     input: &str,
     style: Option<usize>,

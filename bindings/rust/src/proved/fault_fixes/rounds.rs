@@ -22,7 +22,6 @@ struct Faults<'a> {
 
 /// Returns the faults of a text. Returns `Err` if an allocation fails, or if the text has 2^59
 /// bytes or more.
-#[inline]
 fn faults_of(text: &str, mode: ParseMode) -> Result<Faults<'_>, AllocError> {
     if text.len() >= 1 << (usize::BITS - 5) {
         return crate::shim::alloc::refuse();
@@ -42,7 +41,6 @@ fn faults_of(text: &str, mode: ParseMode) -> Result<Faults<'_>, AllocError> {
 }
 
 /// Returns whether faults are some of others, in their order, by their kinds alone.
-#[inline]
 fn is_part(part: &[Fault<'_>], all_faults: &[Fault<'_>]) -> bool {
     let mut count = 0;
     for fault in all_faults {
@@ -58,7 +56,6 @@ fn is_part(part: &[Fault<'_>], all_faults: &[Fault<'_>]) -> bool {
 
 /// Returns how many calls over a text find a fault, or `None` if not all of these faults are old
 /// ones, in their order. Returns `Err` as `faults_of` does.
-#[inline]
 fn count_left(old: &[Fault<'_>], text: &str, mode: ParseMode) -> Result<Option<usize>, AllocError> {
     let faults = faults_of(text, mode)?;
     if is_part(faults.list.as_slice(), old) {
@@ -78,7 +75,6 @@ struct Best {
 
 /// Keeps a literal if it is better. `calls` is how many of its calls find a fault, or `None` if
 /// there is a new one.
-#[inline]
 fn offer(best: &mut Best, literal: FixedLiteral, calls: Option<usize>) {
     if let Some(calls) = calls {
         if calls < best.calls {
@@ -90,7 +86,6 @@ fn offer(best: &mut Best, literal: FixedLiteral, calls: Option<usize>) {
 
 /// Returns what one more round of edits makes of a literal, or `None` if there is no edit. Returns
 /// `Err` if an allocation fails, or if the literal or its text has 2^59 bytes or more.
-#[inline]
 fn next_round(
     literal: &FixedLiteral,
     style: Option<usize>,
@@ -122,7 +117,6 @@ fn next_round(
 /// literal. The arguments are those of [`Parser::new`]: the number of hashes, the byte length of
 /// the input and 2 must add up to less than 2^64. Returns `Err` if an allocation fails, or if there
 /// is an edit and a literal or its text has 2^59 bytes or more.
-#[inline]
 pub fn fix(
     input: &str,
     style: Option<usize>,

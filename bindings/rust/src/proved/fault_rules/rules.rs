@@ -306,7 +306,6 @@ pub const RULES: [Rule; COUNT] = [
 ];
 
 /// Returns the first of these rules that has an id, or `None` if none has it.
-#[inline]
 fn find(rules: &[Rule], id: &str) -> Option<Rule> {
     for rule in rules {
         if rule.id == id {

@@ -1,10 +1,10 @@
-//! The tokens of a file that no edit touches.
+//! The tokens of a file that no edit touches, and whether all are tokens of Rust.
 
 // Extracted from crates/file_fixes/src/outside.rt by tools/extract: not to be edited.
 // That source has the contracts, and is proved. That this text means the same is only tested.
 
 use crate::proved::fault_fixes::Edit;
-use crate::proved::rust_tokens::{tokens, Token};
+use crate::proved::rust_tokens::{tokens, Kind, Token};
 use crate::shim::alloc::AllocError;
 use crate::shim::prelude::*;
 
@@ -29,7 +29,6 @@ struct PartsAhead {
 }
 
 /// Returns the parts of a text that edits remove from it.
-#[inline]
 fn old_parts(edits: &[Edit<'_>]) -> Result<Vec<EditedPart>, AllocError> {
     let mut parts = Vec::new();
     let mut end = 0;
@@ -44,7 +43,6 @@ fn old_parts(edits: &[Edit<'_>]) -> Result<Vec<EditedPart>, AllocError> {
 }
 
 /// Returns the parts of the edited text that edits put into it.
-#[inline]
 fn new_parts(edits: &[Edit<'_>]) -> Result<Vec<EditedPart>, AllocError> {
     let mut parts = Vec::new();
     let mut end = 0;
@@ -59,13 +57,11 @@ fn new_parts(edits: &[Edit<'_>]) -> Result<Vec<EditedPart>, AllocError> {
 }
 
 /// Returns whether a part ends by the offset `at`. The part before it ends at `end`.
-#[inline]
 fn ends_by(at: usize, end: usize, part: EditedPart) -> bool {
     end <= at && part.gap <= at - end && part.width <= at - end - part.gap
 }
 
 /// Returns the place after the place `from` and after all parts that end by the offset `at`.
-#[inline]
 fn place_after(at: usize, from: PartsAhead, parts: &[EditedPart]) -> PartsAhead {
     let mut place = from;
     while let Some(part) = parts.get(place.index) {
@@ -80,7 +76,6 @@ fn place_after(at: usize, from: PartsAhead, parts: &[EditedPart]) -> PartsAhead 
 }
 
 /// Returns whether no part that is ahead starts before the offset `at`.
-#[inline]
 fn is_before(at: usize, place: PartsAhead, parts: &[EditedPart]) -> bool {
     match parts.get(place.index) {
         Some(part) => at.saturating_sub(place.end) <= part.gap,
@@ -89,7 +84,6 @@ fn is_before(at: usize, place: PartsAhead, parts: &[EditedPart]) -> bool {
 }
 
 /// Returns a token, moved n bytes towards the start of the text.
-#[inline]
 fn moved_token(n: usize, token: &Token) -> Token {
     Token {
         kind: token.kind,
@@ -101,7 +95,6 @@ fn moved_token(n: usize, token: &Token) -> Token {
 
 /// Returns those tokens of a text that no part touches, at the places that they have in the text
 /// without the parts.
-#[inline]
 fn untouched_tokens(parts: &[EditedPart], tokens: &[Token]) -> Result<Vec<Token>, AllocError> {
     let mut others = Vec::new();
     let mut place = PartsAhead {
@@ -124,11 +117,31 @@ fn are_same(old: &[Token], new: &[Token]) -> bool {
     old == new
 }
 
-/// Returns whether the tokens that no edit touches are the same in a text and in the edited text.
+/// Returns whether a token has its end, and is no character that begins no token.
 #[inline]
+fn is_known(token: &Token) -> bool {
+    token.is_ended && !matches!(token.kind, Kind::Unknown)
+}
+
+/// Returns whether all tokens are known.
+#[inline]
+fn are_known(tokens: &[Token]) -> bool {
+    for token in tokens {
+        if !is_known(token) {
+            return false;
+        }
+    }
+    true
+}
+
+/// Returns whether the tokens that no edit touches are the same in a text and in the edited text,
+/// of which all tokens are known.
 pub(crate) fn keeps_tokens(old: &str, edits: &[Edit<'_>], new: &str) -> Result<bool, AllocError> {
     let old_tokens = tokens(old)?;
     let new_tokens = tokens(new)?;
+    if !are_known(new_tokens.as_slice()) {
+        return Ok(false);
+    }
     let old_others = untouched_tokens(old_parts(edits)?.as_slice(), old_tokens.as_slice())?;
     let new_others = untouched_tokens(new_parts(edits)?.as_slice(), new_tokens.as_slice())?;
     Ok(are_same(old_others.as_slice(), new_others.as_slice()))

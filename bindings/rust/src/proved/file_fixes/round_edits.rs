@@ -9,7 +9,6 @@ use crate::shim::alloc::AllocError;
 use crate::shim::prelude::*;
 
 /// Returns where the last edit ends, or `at` if there is none.
-#[inline]
 pub(crate) fn end_after(at: usize, edits: &[Edit<'_>]) -> usize {
     let mut end = at;
     for edit in edits {
@@ -20,7 +19,6 @@ pub(crate) fn end_after(at: usize, edits: &[Edit<'_>]) -> usize {
 
 /// Adds the edits of a fault if it is mended. The last edit before them ends at `at`. Returns where
 /// the last edit ends now, or `Err` if an allocation fails.
-#[inline]
 fn add_edits<'f>(
     all: &mut Vec<Edit<'f>>,
     at: usize,
@@ -36,7 +34,6 @@ fn add_edits<'f>(
 }
 
 /// Returns the edits of the faults that are mended in one round.
-#[inline]
 pub(crate) fn round_edits<'f>(findings: &'f [Finding]) -> Result<Vec<Edit<'f>>, AllocError> {
     let mut all = Vec::new();
     let mut at = 0;

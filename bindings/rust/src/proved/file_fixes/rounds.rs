@@ -15,6 +15,8 @@ use crate::shim::prelude::*;
 const MOST_ROUNDS: usize = 16;
 
 /// The fixes of a file.
+#[non_exhaustive]
+#[derive(Clone, Debug, Eq, PartialEq)]
 pub struct FileFixes {
     /// The source with the fixes, or `None` if nothing is fixed.
     pub text: Option<String>,
@@ -34,7 +36,6 @@ struct Round {
 
 /// Returns whether a report on a file is no worse than the old one: the file does not break, has as
 /// many calls, and no more faults.
-#[inline]
 pub fn is_no_worse(old: &Report, new: &Report) -> bool {
     old.first_break.is_none()
         && new.first_break.is_none()
@@ -44,7 +45,6 @@ pub fn is_no_worse(old: &Report, new: &Report) -> bool {
 
 /// Returns whether a report on a file after a round is no worse than the one before it, and the
 /// faults that the round does not mend stay.
-#[inline]
 fn keeps_faults(old: &Report, new: &Report) -> Result<bool, AllocError> {
     if !is_no_worse(old, new) {
         return Ok(false);
@@ -53,16 +53,15 @@ fn keeps_faults(old: &Report, new: &Report) -> Result<bool, AllocError> {
 }
 
 /// Returns whether the tokens that no edit of a round touches are the same in a file before and
-/// after the round.
-#[inline]
+/// after the round, and it lexes after the round.
 fn keeps_others(old: &str, report: &Report, new: &str) -> Result<bool, AllocError> {
     let edits = round_edits(report.findings.as_slice())?;
     keeps_tokens(old, edits.as_slice(), new)
 }
 
 /// Returns a file after one more round, or `None` if there is nothing to mend or the file with its
-/// edits is worse, lacks a fault that is not mended or has other tokens where no edit is.
-#[inline]
+/// edits is worse, lacks a fault that is not mended, has other tokens where no edit is or does not
+/// lex.
 fn next_round(
     text: &str,
     file_fixes: &FileFixes,
@@ -94,7 +93,6 @@ fn next_round(
 }
 
 /// Returns fixes with those of one more round.
-#[inline]
 fn with_round(file_fixes: FileFixes, round: Round) -> Result<FileFixes, AllocError> {
     let mut ids = file_fixes.ids;
     ids.try_extend_from_slice(round.ids.as_slice())?;
@@ -111,11 +109,10 @@ fn with_round(file_fixes: FileFixes, round: Round) -> Result<FileFixes, AllocErr
 ///
 /// A round applies the suggestions of all faults whose edits follow each other. The next round does
 /// the same with the new report; there are at most sixteen. A round is left out, and none follows,
-/// if the file then breaks, has another number of calls, more faults, or other tokens where no edit
-/// is, or if a fault that it does not mend is gone. So a round changes only the tokens that its
-/// edits touch, the other faults stay, and at most as many new ones come as it mends. Nothing is
-/// fixed in a file that breaks.
-#[inline]
+/// if the file then breaks or does not lex, has another number of calls, more faults, or other
+/// tokens where no edit is, or if a fault that it does not mend is gone. So a round changes only
+/// the tokens that its edits touch, the other faults stay, and at most as many new ones come as it
+/// mends. Nothing is fixed in a file that breaks.
 pub fn fixes(text: &str, options: &Options<'_>) -> Result<FileFixes, AllocError> {
     let mut file_fixes = FileFixes {
         text: None,

@@ -21,6 +21,7 @@ use crate::shim::alloc::AllocError;
 use crate::shim::prelude::*;
 
 /// What inlining makes of a call.
+#[non_exhaustive]
 #[derive(Clone, Copy, Debug, Eq, PartialEq)]
 pub enum CallInlining {
     /// Its format string has the variables that were arguments.
@@ -51,7 +52,6 @@ pub(crate) struct InlinedCalls {
 
 /// Returns whether the string of a macro with this rule and this name is known to be a format
 /// string if no argument follows it.
-#[inline]
 fn is_format_alone(rule: Rule, name: &[u8], is_from_2021: bool) -> bool {
     match rule {
         Rule::Index(_) => is_standard(name),
@@ -82,7 +82,6 @@ struct LiteralSite<'s, 'a> {
 }
 
 /// Returns what inlining makes of this call, which `site` is in its file.
-#[inline]
 fn inline_format_call(
     site: LiteralSite<'_, '_>,
     call: FormatCall<'_>,
@@ -121,7 +120,6 @@ fn unchanged_call(reason: CallInlining) -> InlinedCall {
 
 /// Returns what inlining makes of a call of a macro with this rule and this name, whose arguments
 /// are all or not.
-#[inline]
 fn inline_site(
     site: LiteralSite<'_, '_>,
     rule: Rule,
@@ -156,7 +154,6 @@ fn inline_site(
 }
 
 /// Returns what inlining makes of a call whose format string begins the argument of this index.
-#[inline]
 fn inline_at(
     file: File<'_, '_>,
     part: &Part<'_>,
@@ -199,7 +196,6 @@ fn inline_at(
 
 /// Returns what inlining makes of a call whose format string is the argument of this index, or
 /// whose templates begin with it.
-#[inline]
 fn inline_one(
     file: File<'_, '_>,
     part: &Part<'_>,
@@ -217,7 +213,6 @@ fn inline_one(
 }
 
 /// Returns whether the format string of a call of a macro with this rule was not read.
-#[inline]
 fn is_unread(rule: Rule, reading: CallReading) -> bool {
     match rule {
         Rule::Templates => false,
@@ -228,7 +223,6 @@ fn is_unread(rule: Rule, reading: CallReading) -> bool {
 }
 
 /// Returns what inlining makes of a call that has this reading.
-#[inline]
 fn inline_call<'a>(
     file: File<'_, 'a>,
     part: &Part<'a>,
@@ -254,7 +248,6 @@ fn inline_call<'a>(
 
 /// Adds what inlining makes of calls of a part of a file that have these readings, one after the
 /// other.
-#[inline]
 pub(crate) fn inline_calls<'a>(
     results: &mut InlinedCalls,
     file: File<'_, 'a>,

@@ -14,7 +14,6 @@ use crate::shim::prelude::*;
 
 /// Returns the edits of a literal with lines that end with LF as edits of its token, which has
 /// these CRs more.
-#[inline]
 fn token_edits(crs: &[usize], edits: &[Edit]) -> Result<Vec<Edit>, AllocError> {
     let mut list = Vec::new();
     for edit in edits {
@@ -27,7 +26,6 @@ fn token_edits(crs: &[usize], edits: &[Edit]) -> Result<Vec<Edit>, AllocError> {
 }
 
 /// Returns an edit that stands some bytes further on, or `None` if an offset is too large.
-#[inline]
 fn move_edit(edit: &Edit, offset: usize) -> Result<Option<Edit>, AllocError> {
     let (Some(start), Some(end)) = (
         offset.checked_add(edit.span.start),
@@ -42,7 +40,6 @@ fn move_edit(edit: &Edit, offset: usize) -> Result<Option<Edit>, AllocError> {
 }
 
 /// Returns edits that stand some bytes further on, or `None` if an offset is too large.
-#[inline]
 fn move_edits(edits: &[Edit], offset: usize) -> Result<Option<Vec<Edit>>, AllocError> {
     let mut list = Vec::new();
     for edit in edits {
@@ -55,7 +52,6 @@ fn move_edits(edits: &[Edit], offset: usize) -> Result<Option<Vec<Edit>>, AllocE
 }
 
 /// Adds the edits that remove the arguments of these indices, with their source.
-#[inline]
 fn push_removals(
     edits: &mut Vec<Edit>,
     text: &str,
@@ -75,7 +71,6 @@ fn push_removals(
 }
 
 /// Returns whether a token, without the CR before each LF, is this literal.
-#[inline]
 fn is_literal(token: &str, literal: &str) -> Result<bool, AllocError> {
     let text = without_crs(token)?;
     Ok(text.as_str() == literal)
@@ -83,7 +78,6 @@ fn is_literal(token: &str, literal: &str) -> Result<bool, AllocError> {
 
 /// Returns the edits of the literal that a token is, as edits of its file, or `None` if the token
 /// with them is not the new literal.
-#[inline]
 fn literal_edits(
     literal: Token<'_>,
     inlining: &InlinedCall,
@@ -101,7 +95,6 @@ fn literal_edits(
 
 /// Returns the edits that inline a call, with this token as its literal and these arguments after
 /// it, or `None` if the token with its edits is not the new literal.
-#[inline]
 pub(crate) fn edits_of(
     text: &str,
     tokens: &[Token<'_>],

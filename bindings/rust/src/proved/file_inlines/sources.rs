@@ -12,7 +12,6 @@ use crate::shim::prelude::*;
 use core::ops::Range;
 
 /// Returns the offset at which the token of an index ends in its file, or 0 if there is none.
-#[inline]
 fn end_at(text: &str, tokens: &[Token<'_>], index: usize) -> usize {
     match token_at(tokens, index) {
         Some(token) => text.len().min(token.start.saturating_add(token.text.len())),
@@ -22,7 +21,6 @@ fn end_at(text: &str, tokens: &[Token<'_>], index: usize) -> usize {
 
 /// Returns the bytes of a file that go with an argument: from the end of the token before its comma
 /// to its own end.
-#[inline]
 pub(crate) fn removal_range(text: &str, tokens: &[Token<'_>], argument: &Argument) -> Range<usize> {
     let start = end_at(text, tokens, argument.start.saturating_sub(2));
     let end = end_at(text, tokens, argument.end.saturating_sub(1));
@@ -30,7 +28,6 @@ pub(crate) fn removal_range(text: &str, tokens: &[Token<'_>], argument: &Argumen
 }
 
 /// Returns the bytes of a text in a range, or those of it that there are.
-#[inline]
 fn bytes_in<'a>(text: &'a str, range: &Range<usize>) -> &'a [u8] {
     let rest = text.as_bytes().get(range.start..).unwrap_or(&[]);
     rest.get(..range.end.saturating_sub(range.start))
@@ -38,7 +35,6 @@ fn bytes_in<'a>(text: &'a str, range: &Range<usize>) -> &'a [u8] {
 }
 
 /// Returns the value of an argument if that is one word.
-#[inline]
 fn word_of<'a>(tokens: &[Token<'a>], argument: &Argument) -> Option<&'a str> {
     let count = if argument.is_named { 3 } else { 1 };
     if argument.end.saturating_sub(argument.start) != count {
@@ -57,7 +53,6 @@ fn word_of<'a>(tokens: &[Token<'a>], argument: &Argument) -> Option<&'a str> {
 }
 
 /// Returns an argument of a call with its source.
-#[inline]
 fn with_source<'a>(text: &'a str, tokens: &[Token<'a>], argument: &Argument) -> FormatArgument<'a> {
     let range = removal_range(text, tokens, argument);
     FormatArgument {
@@ -68,7 +63,6 @@ fn with_source<'a>(text: &'a str, tokens: &[Token<'a>], argument: &Argument) -> 
 }
 
 /// Returns arguments of a call with their source.
-#[inline]
 pub(crate) fn with_sources<'a>(
     text: &'a str,
     tokens: &[Token<'a>],

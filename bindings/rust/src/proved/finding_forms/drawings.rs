@@ -15,7 +15,7 @@ use crate::shim::prelude::*;
 use core::ops::Range;
 
 /// The most bytes of a file that a drawing is about, and the most bytes of a line of it.
-const MOST: usize = 4096;
+pub const MOST: usize = 4096;
 /// The most labels of a drawing.
 const MOST_LABELS: usize = 20;
 
@@ -32,7 +32,6 @@ struct Excerpt<'a> {
 }
 
 /// Returns the smallest range that has two others.
-#[inline]
 fn join_ranges(one: &Range<usize>, other: &Range<usize>) -> Range<usize> {
     let start = if one.start < other.start {
         one.start
@@ -48,7 +47,6 @@ fn join_ranges(one: &Range<usize>, other: &Range<usize>) -> Range<usize> {
 }
 
 /// Returns the smallest range of a file that has all ranges of a finding.
-#[inline]
 fn extent(finding: &Finding) -> Range<usize> {
     let mut extent = finding.span.start..finding.span.end;
     for label in &finding.labels {
@@ -69,7 +67,6 @@ fn extent(finding: &Finding) -> Range<usize> {
 
 /// Returns the byte offset at which the line of an offset starts, after a byte order mark at the
 /// start of the file.
-#[inline]
 fn line_start(text: &str, offset: usize) -> usize {
     let (front, _) = text.split_at(text.boundary_at_most(offset));
     match front.rsplit_once('\n') {
@@ -80,7 +77,6 @@ fn line_start(text: &str, offset: usize) -> usize {
 
 /// Returns the byte offset at which the line of an offset ends, without its line end, or `None` if
 /// that is too far.
-#[inline]
 fn line_end(text: &str, offset: usize) -> Option<usize> {
     let (_, rest) = text.split_at(text.boundary_at_most(offset));
     let (window, remainder) = rest.split_at(rest.boundary_at_most(MOST + 2));
@@ -93,7 +89,6 @@ fn line_end(text: &str, offset: usize) -> Option<usize> {
 }
 
 /// Returns the lines of a range of a file, or `None` if they are too long for a drawing.
-#[inline]
 fn excerpt_of<'a>(
     file: &File<'a>,
     range: &Range<usize>,
@@ -131,7 +126,6 @@ fn excerpt_of<'a>(
 
 impl<'a> Excerpt<'a> {
     /// Returns the byte offset in the source of an offset of the file.
-    #[inline]
     fn offset(&self, offset: usize) -> usize {
         let at = offset.saturating_sub(self.start);
         let (front, _) = self.lines.split_at(self.lines.boundary_at_most(at));
@@ -151,7 +145,6 @@ impl<'a> Excerpt<'a> {
     }
 
     /// Returns the labels of a finding.
-    #[inline]
     fn labels<'f>(&self, finding: &'f Finding) -> Result<Vec<SourceLabel<'f>>, AllocError> {
         let mut labels = Vec::new();
         for label in &finding.labels {
@@ -165,7 +158,6 @@ impl<'a> Excerpt<'a> {
     }
 
     /// Returns the ranges of the notes of a finding.
-    #[inline]
     fn note_ranges(&self, finding: &Finding) -> Result<Vec<Vec<Range<usize>>>, AllocError> {
         let mut all = Vec::new();
         for note in &finding.notes {
@@ -179,7 +171,6 @@ impl<'a> Excerpt<'a> {
     }
 
     /// Returns the edits of the help of a finding with these texts, or none.
-    #[inline]
     fn edits<'f>(
         &self,
         finding: &Finding,
@@ -199,7 +190,6 @@ impl<'a> Excerpt<'a> {
 }
 
 /// Returns a text with LF for CRLF.
-#[inline]
 fn with_line_feeds(text: &str) -> Result<String, AllocError> {
     let mut out = String::new();
     let mut is_first = true;
@@ -214,7 +204,6 @@ fn with_line_feeds(text: &str) -> Result<String, AllocError> {
 }
 
 /// Returns the new texts of the help of a finding, with LF for CRLF, or none.
-#[inline]
 fn edit_texts(finding: &Finding) -> Result<Vec<String>, AllocError> {
     let mut texts = Vec::new();
     if let Some(help) = &finding.help {
@@ -226,7 +215,6 @@ fn edit_texts(finding: &Finding) -> Result<Vec<String>, AllocError> {
 }
 
 /// Returns the notes of a finding, with these ranges.
-#[inline]
 fn notes<'f>(
     finding: &'f Finding,
     ranges: &'f [Vec<Range<usize>>],
@@ -242,7 +230,6 @@ fn notes<'f>(
 }
 
 /// Returns the help of a finding, with these edits, or none.
-#[inline]
 fn helps<'f>(
     finding: &'f Finding,
     edits: &'f [Edit<'f>],
@@ -268,7 +255,6 @@ fn level(finding: &Finding) -> Level {
 }
 
 /// Appends the drawing of a finding under these lines.
-#[inline]
 fn put_drawn<'x>(
     out: &mut String,
     colours: bool,
@@ -303,7 +289,6 @@ fn put_drawn<'x>(
 
 /// Appends the drawing of a finding, maybe in colours, and returns whether there is one: none is
 /// made of more than 20 labels, of more than 4,096 bytes, or of a line with more than that.
-#[inline]
 pub fn put_drawing(
     out: &mut String,
     colours: bool,

@@ -3,9 +3,8 @@
 // Extracted from crates/finding_forms/src/forms.rt by tools/extract: not to be edited.
 // That source has the contracts, and is proved. That this text means the same is only tested.
 
-use crate::proved::drawn_lines::WIDTH;
 use crate::proved::fault_rules::RULES;
-use crate::proved::finding_forms::drawings::put_drawing;
+use crate::proved::finding_forms::drawings::{put_drawing, MOST};
 use crate::proved::lint_words::Form;
 use crate::proved::message_forms::{
     put_github, put_json, put_sarif_end, put_sarif_result, put_sarif_start, put_short, Child,
@@ -32,7 +31,6 @@ const TRAITS: usize = 9;
 
 /// Returns a suggestion that is in no drawing: to write a trait that is known, of which this is the
 /// number, where another one stands. Returns `None` for other faults and numbers.
-#[inline]
 fn trait_suggestion(id: &str, number: usize) -> Option<LabelSuggestion> {
     let (advice, text) = match number {
         0 => ("use the `Display` trait", ""),
@@ -57,42 +55,49 @@ fn trait_suggestion(id: &str, number: usize) -> Option<LabelSuggestion> {
 }
 
 /// Returns the lines of a text around a range, without the last LF and a byte order mark at the
-/// start of the text.
-#[inline]
-fn lines_around(text: &str, start: usize, end: usize) -> &str {
-    let (front, _) = text.split_at(text.boundary_at_most(start));
-    let line_start = match front.rsplit_once('\n') {
-        Some((head, _)) => head.len() + 1,
+/// start of the text, or `None` if they have more bytes than a drawing is about.
+fn lines_around(text: &str, start: usize, end: usize) -> Option<&str> {
+    let window_start = text.boundary_at_most(start.saturating_sub(MOST + 1));
+    let line_start = match text.get(window_start..start)?.rsplit_once('\n') {
+        Some((head, _)) => window_start.saturating_add(head.len()).saturating_add(1),
+        None if window_start > 0 => return None,
         None => text.len() - text.strip_prefix('\u{feff}').unwrap_or(text).len(),
     };
-    let (_, rest) = text.split_at(text.boundary_at_most(end));
-    let line_end = text.len()
-        - match rest.split_once('\n') {
-            Some((line, _)) => rest.len() - line.len(),
-            None => 0,
-        };
-    text.get(line_start..line_end).unwrap_or("")
+    let window_end = text.boundary_at_most(end.saturating_add(MOST + 1));
+    let line_end = match text.get(end..window_end)?.split_once('\n') {
+        Some((tail, _)) => end.saturating_add(tail.len()),
+        None if window_end < text.len() => return None,
+        None => text.len(),
+    };
+    let lines = text.get(line_start..line_end)?;
+    if lines.len() > MOST {
+        None
+    } else {
+        Some(lines)
+    }
 }
 
-/// Returns a range of a file as messages have it, without a label or a suggestion.
-#[inline]
-fn span_of<'a>(file: &File<'a>, form: Form, range: &Range<usize>) -> Span<'a> {
+/// Returns a range of a file as messages have it, without its lines, a label or a suggestion.
+fn span_of<'a>(file: &File<'a>, range: &Range<usize>) -> Span<'a> {
     let byte_start = file.text.boundary_at_most(range.start);
     let byte_end = file.text.boundary_at_most(range.end);
-    let lines = match form {
-        Form::Json => lines_around(file.text, byte_start, byte_end),
-        _ => "",
-    };
     Span {
         byte_start,
         byte_end,
         start: file.places.place_of(byte_start),
         end: file.places.place_of(byte_end),
-        lines,
+        lines: None,
         is_primary: true,
         label: None,
         suggestion: None,
     }
+}
+
+/// Returns a range of a file as messages of JSON have it, without a label or a suggestion.
+fn json_span<'a>(file: &File<'a>, range: &Range<usize>) -> Span<'a> {
+    let mut span = span_of(file, range);
+    span.lines = lines_around(file.text, span.byte_start, span.byte_end);
+    span
 }
 
 /// Returns the level of a finding.
@@ -107,7 +112,6 @@ fn level_of(finding: &Finding) -> Level {
 
 /// Returns the labels of a finding as ranges of its message. One that is a suggestion is a child of
 /// the message, and no label.
-#[inline]
 fn label_spans<'a>(file: &File<'a>, finding: &'a Finding) -> Result<Vec<Span<'a>>, AllocError> {
     let mut spans = Vec::new();
     let mut has_primary = false;
@@ -117,7 +121,7 @@ fn label_spans<'a>(file: &File<'a>, finding: &'a Finding) -> Result<Vec<Span<'a>
             continue;
         }
         has_primary = has_primary || label.is_primary;
-        let mut span = span_of(file, Form::Json, &label.range);
+        let mut span = json_span(file, &label.range);
         span.is_primary = label.is_primary;
         if !label.text.is_empty() && !is_suggestion {
             span.label = Some(label.text.as_str());
@@ -134,7 +138,6 @@ fn is_sure(id: &str) -> bool {
 }
 
 /// Returns the edits of a help as ranges of its message.
-#[inline]
 fn edit_spans<'a>(
     file: &File<'a>,
     help: &'a Help,
@@ -142,7 +145,7 @@ fn edit_spans<'a>(
 ) -> Result<Vec<Span<'a>>, AllocError> {
     let mut spans = Vec::new();
     for edit in &help.edits {
-        let mut span = span_of(file, Form::Json, &edit.range);
+        let mut span = json_span(file, &edit.range);
         span.suggestion = Some(Suggestion {
             text: edit.text.as_str(),
             is_sure,
@@ -153,13 +156,12 @@ fn edit_spans<'a>(
 }
 
 /// Returns the range of a suggestion that is drawn as a label.
-#[inline]
 fn suggestion_spans<'a>(
     file: &File<'a>,
     range: &Range<usize>,
     suggestion: LabelSuggestion,
 ) -> Result<Vec<Span<'a>>, AllocError> {
-    let mut span = span_of(file, Form::Json, range);
+    let mut span = json_span(file, range);
     span.suggestion = Some(Suggestion {
         text: suggestion.text,
         is_sure: suggestion.is_sure,
@@ -171,7 +173,6 @@ fn suggestion_spans<'a>(
 
 /// Returns the ranges of the notes of a finding, then those of its suggestions that are not drawn,
 /// of those among its labels, and of its help.
-#[inline]
 fn child_spans<'a>(
     file: &File<'a>,
     finding: &'a Finding,
@@ -180,7 +181,7 @@ fn child_spans<'a>(
     for note in &finding.notes {
         let mut spans = Vec::new();
         for range in &note.ranges {
-            spans.try_push(span_of(file, Form::Json, range))?;
+            spans.try_push(json_span(file, range))?;
         }
         all.try_push(spans)?;
     }
@@ -202,7 +203,6 @@ fn child_spans<'a>(
 
 /// Returns the notes of a finding, its suggestions that are not drawn, those among its labels and
 /// its help, with these ranges.
-#[inline]
 fn children<'a, 's>(
     finding: &'a Finding,
     ranges: &'s [Vec<Span<'a>>],
@@ -251,7 +251,6 @@ fn children<'a, 's>(
 }
 
 /// Appends a message in the form for people: drawn, maybe in colours, or else in a line.
-#[inline]
 fn put_human(
     out: &mut String,
     colours: bool,
@@ -266,16 +265,16 @@ fn put_human(
     put_short(out, message)
 }
 
-/// Appends a message as a line of JSON.
-#[inline]
+/// Appends a message as a line of JSON, with a drawing of this width.
 fn put_line<'a>(
     out: &mut String,
+    width: usize,
     file: &'a File<'a>,
     finding: &'a Finding,
     message: &Message<'a>,
 ) -> Result<(), AllocError> {
     let mut rendered = String::new();
-    put_human(&mut rendered, false, WIDTH, file, finding, message)?;
+    put_human(&mut rendered, false, width, file, finding, message)?;
     let spans = label_spans(file, finding)?;
     let ranges = child_spans(file, finding)?;
     let children = children(finding, ranges.as_slice())?;
@@ -289,7 +288,6 @@ fn put_line<'a>(
 }
 
 /// Appends a finding in a form.
-#[inline]
 pub fn put_finding<'a>(
     out: &mut String,
     form: Form,
@@ -302,19 +300,18 @@ pub fn put_finding<'a>(
         id: finding.id,
         title: finding.title.as_str(),
         path: file.path,
-        primary: span_of(file, form, &finding.span),
+        primary: span_of(file, &finding.span),
     };
     match form {
         Form::Human { colours, width } => put_human(out, colours, width, file, finding, &message),
         Form::Short => put_short(out, &message),
-        Form::Json => put_line(out, file, finding, &message),
+        Form::Json { width } => put_line(out, width, file, finding, &message),
         Form::Github => put_github(out, &message),
         Form::Sarif => put_sarif_result(out, is_first, &message),
     }
 }
 
 /// Appends the start of the output, which comes before all messages.
-#[inline]
 pub fn put_start(out: &mut String, form: Form, version: &str) -> Result<(), AllocError> {
     match form {
         Form::Sarif => put_sarif_start(out, version, RULES.as_slice()),
@@ -323,7 +320,6 @@ pub fn put_start(out: &mut String, form: Form, version: &str) -> Result<(), Allo
 }
 
 /// Appends the end of the output, which comes after all messages.
-#[inline]
 pub fn put_end(out: &mut String, form: Form, is_whole: bool) -> Result<(), AllocError> {
     match form {
         Form::Sarif => put_sarif_end(out, is_whole),

@@ -28,7 +28,6 @@ pub enum AsmPart {
 
 /// Returns how many of arguments, from the first one on, are a string literal: these are the
 /// templates.
-#[inline]
 pub fn template_count(tokens: &[Token<'_>], arguments: &[Argument]) -> usize {
     for (index, argument) in arguments.iter().enumerate() {
         if !is_text(tokens, argument) {
@@ -39,7 +38,6 @@ pub fn template_count(tokens: &[Token<'_>], arguments: &[Argument]) -> usize {
 }
 
 /// Returns whether a word is that of an operand that a register in parentheses follows.
-#[inline]
 fn is_direction(token: &Token<'_>) -> bool {
     is_text_of(token, "in")
         || is_text_of(token, "out")
@@ -49,13 +47,11 @@ fn is_direction(token: &Token<'_>) -> bool {
 }
 
 /// Returns whether a word is that of an operand that has no register.
-#[inline]
 fn is_value(token: &Token<'_>) -> bool {
     is_text_of(token, "const") || is_text_of(token, "sym") || is_text_of(token, "label")
 }
 
 /// Returns whether there is a token, and it is a string literal, of whatever kind.
-#[inline]
 fn is_string(token: Option<Token<'_>>) -> bool {
     match token {
         Some(token) => matches!(token.kind, Kind::Str | Kind::RawStr),
@@ -64,7 +60,6 @@ fn is_string(token: Option<Token<'_>>) -> bool {
 }
 
 /// Returns whether there is a token, and it is an opening parenthesis.
-#[inline]
 fn is_parenthesis(token: Option<Token<'_>>) -> bool {
     match token {
         Some(token) => is_mark_of(&token, b'('),
@@ -84,7 +79,6 @@ fn register_at(token: Option<Token<'_>>) -> AsmPart {
 
 /// Returns what an argument without a name is that begins with a token, and has the word `raw` or
 /// not.
-#[inline]
 fn setting_of(has_raw: bool, token: &Token<'_>) -> AsmPart {
     if is_text_of(token, "options") {
         if has_raw {
@@ -111,7 +105,6 @@ fn token_in<'a>(tokens: &[Token<'a>], argument: &Argument, index: usize) -> Opti
 
 /// Returns what an argument is whose value begins with the first one of these three tokens, if they
 /// are there. It has a name or not, and the word `raw` or not.
-#[inline]
 fn part_of(
     is_named: bool,
     has_raw: bool,
@@ -135,7 +128,6 @@ fn part_of(
 }
 
 /// Returns what an argument after the templates is, which starts at one of the tokens.
-#[inline]
 pub fn asm_part(part: &Part<'_>, argument: &Argument) -> AsmPart {
     let tokens = part.tokens();
     let start = if argument.is_named {

@@ -8,7 +8,6 @@ use crate::proved::format_calls::split::{after_tree, is_named};
 use crate::proved::rust_trees::{is_opening, Source, Token};
 
 /// Returns whether a token opens a pair.
-#[inline]
 fn opens_at(tokens: &[Token<'_>], index: usize) -> bool {
     match token_at(tokens, index) {
         Some(token) => is_opening(token.side()),
@@ -18,7 +17,6 @@ fn opens_at(tokens: &[Token<'_>], index: usize) -> bool {
 
 /// Returns whether a token among arguments says that their number is not known: a macro repeats
 /// some of them or names one, or `;` begins something else.
-#[inline]
 fn is_uncounted(tokens: &[Token<'_>], index: usize) -> bool {
     if is_mark(tokens, index, b'$') {
         return opens_at(tokens, index + 1) || is_named(tokens, index + 1);
@@ -47,7 +45,6 @@ pub struct Extent {
 
 /// Returns where the arguments end that start at a token between delimiters: at the delimiter that
 /// closes the pair or, where `ends_early` says so, at the first `;` among them.
-#[inline]
 pub fn extent_of(
     source: &Source<'_>,
     ends_early: bool,

@@ -14,7 +14,6 @@ use crate::shim::prelude::*;
 /// Returns the text before a part that begins in the rest of a file, which starts at this offset.
 /// Returns `None` if the text may read as other tokens before another part, or if the part is no
 /// forest.
-#[inline]
 fn gap_before<'a>(rest: &'a str, offset: usize, part: &Source<'a>) -> Option<&'a str> {
     let Some(name) = part.tokens().first() else {
         return None;
@@ -54,7 +53,6 @@ impl<'a> Gaps<'a> {
     /// Adds the text before a part that begins in the rest of a file, which starts at this offset.
     /// After a text that may read as other tokens, or a part that is no forest, the texts are no
     /// longer known.
-    #[inline]
     pub(crate) fn add(
         &mut self,
         rest: &'a str,
@@ -92,7 +90,6 @@ fn are_ended(tokens: &[Token<'_>]) -> bool {
 /// Reads a file up to the end of the next call as `next_part` does, where this text stands before
 /// that. Returns `None` if another text does, or the part is no forest or lacks an end. Returns
 /// `Err` if an allocation fails. How much of `rest` is left after `None` or `Err` is unspecified.
-#[inline]
 pub fn next_known_part<'a>(
     rest: &mut Tokens<'a>,
     table: &Table<'_>,

@@ -21,7 +21,6 @@ pub struct Call {
 }
 
 /// Returns the rule of a token that is a word of a table, or `None` if it is none.
-#[inline]
 fn rule_at(tokens: &[Token<'_>], rows: &[Row<'_>], name: usize) -> Option<Rule> {
     match token_at(tokens, name) {
         Some(token) => {
@@ -36,7 +35,6 @@ fn rule_at(tokens: &[Token<'_>], rows: &[Row<'_>], name: usize) -> Option<Rule> 
 }
 
 /// Returns the call whose name is this token, or `None` if there is none.
-#[inline]
 fn call_at(source: &Source<'_>, rows: &[Row<'_>], name: usize) -> Option<Call> {
     let tokens = source.tokens();
     if !is_mark(tokens, name + 1, b'!') {
@@ -59,7 +57,6 @@ fn call_at(source: &Source<'_>, rows: &[Row<'_>], name: usize) -> Option<Call> {
 }
 
 /// Returns the calls of the macros of a table, in the order of their names.
-#[inline]
 pub fn calls(source: &Source<'_>, table: &Table<'_>) -> Result<Vec<Call>, AllocError> {
     let mut calls = Vec::new();
     for name in 0..source.tokens().len() {

@@ -7,7 +7,6 @@ use crate::proved::rust_tokens::Kind;
 use crate::proved::rust_trees::Token;
 
 /// Returns the token of an index, or `None` if there is none.
-#[inline]
 pub fn token_at<'a>(tokens: &[Token<'a>], index: usize) -> Option<Token<'a>> {
     if index < tokens.len() {
         Some(tokens[index])
@@ -17,7 +16,6 @@ pub fn token_at<'a>(tokens: &[Token<'a>], index: usize) -> Option<Token<'a>> {
 }
 
 /// Returns whether the token is this character of punctuation.
-#[inline]
 pub fn is_mark_of(token: &Token<'_>, mark: u8) -> bool {
     if !matches!(token.kind, Kind::Punct) {
         return false;
@@ -29,7 +27,6 @@ pub fn is_mark_of(token: &Token<'_>, mark: u8) -> bool {
 }
 
 /// Returns whether the token of an index is this character of punctuation.
-#[inline]
 pub fn is_mark(tokens: &[Token<'_>], index: usize, mark: u8) -> bool {
     match token_at(tokens, index) {
         Some(token) => is_mark_of(&token, mark),
@@ -50,7 +47,6 @@ pub fn is_word(token: &Token<'_>) -> bool {
 }
 
 /// Returns the bytes of a word, without the `r#` of a raw one.
-#[inline]
 pub fn word<'a>(token: &Token<'a>) -> &'a [u8] {
     let bytes = token.text.as_bytes();
     if matches!(token.kind, Kind::RawIdent) && bytes.len() > 2 {

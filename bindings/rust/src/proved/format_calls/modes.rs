@@ -24,13 +24,11 @@ pub enum Mode {
 }
 
 /// Returns whether a token follows another one without white space and comments.
-#[inline]
 pub fn is_joint(token: &Token<'_>, next: &Token<'_>) -> bool {
     token.start <= next.start && next.start - token.start == token.text.len()
 }
 
 /// Returns whether this character of punctuation follows a token without white space and comments.
-#[inline]
 pub fn is_followed(tokens: &[Token<'_>], index: usize, mark: u8) -> bool {
     match token_at(tokens, index) {
         Some(token) => match token_at(tokens, index + 1) {
@@ -42,13 +40,11 @@ pub fn is_followed(tokens: &[Token<'_>], index: usize, mark: u8) -> bool {
 }
 
 /// Returns whether `<` opens a list in angles where one may stand: it does not begin `<=`.
-#[inline]
 fn opens_list(tokens: &[Token<'_>], index: usize) -> bool {
     is_mark(tokens, index, b'<') && !is_followed(tokens, index, b'=')
 }
 
 /// Returns whether the token is the `>` of `->`.
-#[inline]
 fn is_arrow(tokens: &[Token<'_>], index: usize) -> bool {
     is_mark(tokens, index, b'>')
         && is_after(tokens, index, b'-')
@@ -62,21 +58,18 @@ fn closes_list(tokens: &[Token<'_>], index: usize) -> bool {
 }
 
 /// Returns whether the token is the first character of `||` or `<<`.
-#[inline]
 fn is_double(tokens: &[Token<'_>], index: usize) -> bool {
     is_mark(tokens, index, b'|') && is_followed(tokens, index, b'|')
         || is_mark(tokens, index, b'<') && is_followed(tokens, index, b'<')
 }
 
 /// Returns whether the token is this word, not a raw one.
-#[inline]
 pub fn is_text(token: &Token<'_>, word: &str) -> bool {
     matches!(token.kind, Kind::Ident) && token.text == word
 }
 
 /// Returns whether the token is a keyword after which an expression starts, or after which a type
 /// goes on to start.
-#[inline]
 fn is_keyword(token: &Token<'_>) -> bool {
     is_text(token, "async")
         || is_text(token, "break")
@@ -94,7 +87,6 @@ fn is_keyword(token: &Token<'_>) -> bool {
 
 /// Returns whether a type that starts at this token still starts after it: it is `&`, `*`, a
 /// lifetime or a keyword.
-#[inline]
 fn is_prefix(token: &Token<'_>) -> bool {
     is_mark_of(token, b'&')
         || is_mark_of(token, b'*')
@@ -104,7 +96,6 @@ fn is_prefix(token: &Token<'_>) -> bool {
 
 /// Returns whether an expression starts after the token: it is punctuation, but no delimiter and no
 /// `?`.
-#[inline]
 fn is_operator(token: &Token<'_>) -> bool {
     matches!(token.kind, Kind::Punct)
         && matches!(token.side(), Side::Neither)
@@ -113,7 +104,6 @@ fn is_operator(token: &Token<'_>) -> bool {
 
 /// Returns the mode after a token, at the start of an expression or of a type or not, and in a type
 /// or not.
-#[inline]
 fn mode_after_leaf(tokens: &[Token<'_>], index: usize, is_start: bool, is_type: bool) -> Mode {
     let Some(token) = token_at(tokens, index) else {
         return Mode::Within(false);
@@ -134,7 +124,6 @@ fn mode_after_leaf(tokens: &[Token<'_>], index: usize, is_start: bool, is_type: 
 }
 
 /// Returns the mode after the tree at a token.
-#[inline]
 pub fn mode_after(tokens: &[Token<'_>], index: usize, mode: Mode) -> Mode {
     match mode {
         Mode::Start(is_type) => {

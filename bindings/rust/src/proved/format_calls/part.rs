@@ -20,7 +20,6 @@ pub enum Target {
 }
 
 /// Returns whether arguments are searched for this token.
-#[inline]
 fn is_target(target: Target, token: &Token<'_>) -> bool {
     match target {
         Target::Variable => is_mark_of(token, b'$') || is_mark_of(token, b'#'),
@@ -29,7 +28,6 @@ fn is_target(target: Target, token: &Token<'_>) -> bool {
 }
 
 /// Returns whether one of these tokens is wanted.
-#[inline]
 fn has_target(tokens: &[Token<'_>], target: Target) -> bool {
     for token in tokens {
         if is_target(target, token) {
@@ -41,7 +39,6 @@ fn has_target(tokens: &[Token<'_>], target: Target) -> bool {
 
 /// Returns for each number of tokens from the first one on how many of them end with the last one
 /// that is wanted, or nothing if none is.
-#[inline]
 fn last_targets(tokens: &[Token<'_>], target: Target) -> Result<Vec<usize>, AllocError> {
     let mut counts = Vec::new();
     if !has_target(tokens, target) {
@@ -60,7 +57,6 @@ fn last_targets(tokens: &[Token<'_>], target: Target) -> Result<Vec<usize>, Allo
 
 /// Returns whether one of the tokens of an argument is wanted, where `last_targets` are the numbers
 /// that are returned for them.
-#[inline]
 fn holds_target(last_targets: &[usize], argument: &Argument) -> bool {
     let count = last_targets.len().saturating_sub(1);
     match last_targets.get(argument.end.min(count)) {
@@ -79,7 +75,6 @@ pub struct Part<'a> {
 
 impl<'a> Part<'a> {
     /// Reads the tokens of a part.
-    #[inline]
     pub(crate) fn new(source: Source<'a>) -> Result<Self, AllocError> {
         let variables = last_targets(source.tokens(), Target::Variable)?;
         let raws = last_targets(source.tokens(), Target::Raw)?;

@@ -43,7 +43,6 @@ pub struct Front<'a> {
 
 /// Returns the first three tokens of a call, if the last two tokens and the one after them are
 /// these.
-#[inline]
 fn front_of<'a>(rows: &[Row<'_>], last: Window<'a>, opening: Token<'a>) -> Option<Front<'a>> {
     if last.is_after_dollar {
         return None;
@@ -66,7 +65,6 @@ fn front_of<'a>(rows: &[Row<'_>], last: Window<'a>, opening: Token<'a>) -> Optio
 }
 
 /// Returns the last two tokens with one more.
-#[inline]
 fn next_window<'a>(last: Window<'a>, token: Token<'a>) -> Window<'a> {
     let is_after_dollar = match last.name {
         Some(name) => is_mark_of(&name, b'$'),
@@ -80,7 +78,6 @@ fn next_window<'a>(last: Window<'a>, token: Token<'a>) -> Window<'a> {
 }
 
 /// Adds the tokens of a part after the first three.
-#[inline]
 fn add_after_front(balance: &mut Balance, part: &Source<'_>) -> Result<(), AllocError> {
     let tokens = part.tokens();
     balance.add_all(&tokens[3..])?;
@@ -94,7 +91,6 @@ fn add_after_front(balance: &mut Balance, part: &Source<'_>) -> Result<(), Alloc
 /// Only these tokens are in memory at a time, where a whole file takes some twenty times its bytes.
 /// Where the delimiters of a call do not match, its part ends at the first one that nothing allows,
 /// or with the file. All tokens that are read are added to `balance`.
-#[inline]
 pub fn next_part<'a>(
     rest: &mut Tokens<'a>,
     table: &Table<'_>,

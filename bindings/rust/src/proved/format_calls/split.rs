@@ -21,13 +21,11 @@ pub struct Argument {
 }
 
 /// Returns whether a comma at this token ends an argument.
-#[inline]
 fn is_end(tokens: &[Token<'_>], index: usize, mode: Mode) -> bool {
     !matches!(mode, Mode::Angles(_) | Mode::Parameters) && is_mark(tokens, index, b',')
 }
 
 /// Returns whether an argument that starts at this token has a name.
-#[inline]
 pub fn is_named(tokens: &[Token<'_>], index: usize) -> bool {
     match token_at(tokens, index) {
         Some(token) => {
@@ -41,7 +39,6 @@ pub fn is_named(tokens: &[Token<'_>], index: usize) -> bool {
 }
 
 /// Returns the token that closes the pair that a token opens, or `None` if it opens none.
-#[inline]
 pub fn closing_token(source: &Source<'_>, index: usize) -> Option<usize> {
     match source.partner(index) {
         Some(partner) if partner > index => Some(partner),
@@ -50,7 +47,6 @@ pub fn closing_token(source: &Source<'_>, index: usize) -> Option<usize> {
 }
 
 /// Returns the token after the tree at a token between two delimiters that are a pair.
-#[inline]
 pub fn after_tree(source: &Source<'_>, index: usize) -> usize {
     match closing_token(source, index) {
         Some(close) => close + 1,
@@ -60,7 +56,6 @@ pub fn after_tree(source: &Source<'_>, index: usize) -> usize {
 
 /// Returns the end of the argument that starts at a token between delimiters, of which `to` closes
 /// the pair.
-#[inline]
 fn argument_end(source: &Source<'_>, opening: usize, from: usize, to: usize) -> usize {
     let tokens = source.tokens();
     let mut mode = Mode::Start(false);
@@ -73,7 +68,6 @@ fn argument_end(source: &Source<'_>, opening: usize, from: usize, to: usize) -> 
 }
 
 /// Returns the arguments between two delimiters that are a pair.
-#[inline]
 fn arguments_between(
     source: &Source<'_>,
     opening: usize,
@@ -100,7 +94,6 @@ fn arguments_between(
 
 /// Returns the arguments of the call that ends with this closing delimiter, or `None` if the token
 /// closes no pair.
-#[inline]
 pub fn arguments(source: &Source<'_>, close: usize) -> Result<Option<Vec<Argument>>, AllocError> {
     match source.partner(close) {
         Some(opening) => {

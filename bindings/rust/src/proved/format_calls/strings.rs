@@ -10,6 +10,7 @@ use crate::proved::rust_tokens::Kind;
 use crate::proved::rust_trees::{Source, Token};
 
 /// The reason why no format string of a call is read.
+#[non_exhaustive]
 #[derive(Clone, Copy, Debug, Eq, PartialEq)]
 pub enum Reason {
     /// There are too few arguments for one.
@@ -27,13 +28,11 @@ pub enum Reason {
 }
 
 /// Returns whether a token is a string literal that has its end and no suffix.
-#[inline]
 pub fn is_text_leaf(token: &Token<'_>) -> bool {
     matches!(token.kind, Kind::Str | Kind::RawStr) && token.is_ended && !token.has_suffix
 }
 
 /// Returns whether an argument is one string literal.
-#[inline]
 pub(crate) fn is_text(tokens: &[Token<'_>], argument: &Argument) -> bool {
     match token_at(tokens, argument.start) {
         Some(token) => {
@@ -46,7 +45,6 @@ pub(crate) fn is_text(tokens: &[Token<'_>], argument: &Argument) -> bool {
 }
 
 /// Returns the reason why an argument is no string literal.
-#[inline]
 fn reason_of(tokens: &[Token<'_>], argument: &Argument) -> Reason {
     let start = argument.start;
     let Some(token) = token_at(tokens, start) else {
@@ -64,7 +62,6 @@ fn reason_of(tokens: &[Token<'_>], argument: &Argument) -> Reason {
 }
 
 /// Returns whether an argument begins with a string literal that is all of it, or that `;` follows.
-#[inline]
 fn begins_text(tokens: &[Token<'_>], argument: &Argument) -> bool {
     match token_at(tokens, argument.start) {
         Some(token) => {
@@ -86,7 +83,6 @@ fn first_text(tokens: &[Token<'_>], arguments: &[Argument]) -> Option<usize> {
 
 /// Returns this index if the argument with it is the format string, or the reason why none is read.
 /// The last argument may be none.
-#[inline]
 fn string_at(
     tokens: &[Token<'_>],
     arguments: &[Argument],
@@ -108,7 +104,6 @@ fn string_at(
 
 /// Returns the index of the argument that is the format string of a call, or the reason why none is
 /// read.
-#[inline]
 pub fn format_string(
     source: &Source<'_>,
     rule: Rule,

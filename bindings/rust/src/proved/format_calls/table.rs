@@ -32,6 +32,7 @@ pub struct Row<'a> {
 }
 
 /// A table of macros. Of several macros with one name the first counts.
+#[derive(Clone, Debug, Eq, PartialEq)]
 pub struct Table<'a> {
     /// The macros.
     pub rows: Vec<Row<'a>>,
@@ -190,7 +191,6 @@ const CRATES: [Row<'static>; 13] = [
 ];
 
 /// Adds rows to the end of a list.
-#[inline]
 fn push_rows<'a>(rows: &mut Vec<Row<'a>>, new_rows: &[Row<'static>]) -> Result<(), AllocError> {
     for row in new_rows {
         rows.try_push(*row)?;
@@ -200,7 +200,6 @@ fn push_rows<'a>(rows: &mut Vec<Row<'a>>, new_rows: &[Row<'static>]) -> Result<(
 
 impl<'a> Table<'a> {
     /// Returns the macros of the standard library.
-    #[inline]
     pub(crate) fn standard() -> Result<Self, AllocError> {
         let mut rows = Vec::new();
         push_rows(&mut rows, STANDARD.as_slice())?;
@@ -208,7 +207,6 @@ impl<'a> Table<'a> {
     }
 
     /// Returns macros of the crates log, tracing, slog, anyhow and eyre.
-    #[inline]
     pub(crate) fn with_crate_macros() -> Result<Self, AllocError> {
         let mut rows = Vec::new();
         push_rows(&mut rows, CRATES.as_slice())?;
@@ -224,7 +222,6 @@ impl<'a> Table<'a> {
 }
 
 /// Returns the rule of the first macro of this name, or `None` if there is none.
-#[inline]
 pub fn rule_of(rows: &[Row<'_>], word: &[u8]) -> Option<Rule> {
     for row in rows {
         if row.name.as_bytes() == word {

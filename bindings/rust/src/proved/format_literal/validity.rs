@@ -6,7 +6,6 @@
 use crate::proved::rust_tokens::{first_token, split_first, Kind};
 
 /// Returns whether a text is one token, a raw string literal without a suffix.
-#[inline]
 fn is_raw_token(text: &str) -> bool {
     let Some(token) = first_token(text) else {
         return false;
@@ -18,7 +17,6 @@ fn is_raw_token(text: &str) -> bool {
 }
 
 /// Returns whether a text has no CR.
-#[inline]
 fn has_no_cr(text: &str) -> bool {
     let mut rest = text;
     while let Some((c, more)) = split_first(rest) {
@@ -31,7 +29,6 @@ fn has_no_cr(text: &str) -> bool {
 }
 
 /// Returns whether a literal of this style, which stands for this text, can stand in a program.
-#[inline]
 pub(crate) fn is_written(literal: &str, style: Option<usize>, text: &str) -> bool {
     match style {
         None => true,

@@ -25,7 +25,6 @@ pub enum Role {
 }
 
 /// Returns the role of a kind.
-#[inline]
 pub fn role_of(kind: Kind) -> Role {
     match kind {
         Kind::OpenBrace => Role::OpenBrace,
@@ -52,7 +51,6 @@ pub fn role_of(kind: Kind) -> Role {
 }
 
 /// Returns whether the first brace that stands alone is a closing one.
-#[inline]
 fn closes(labels: &[Label]) -> bool {
     for label in labels {
         match role_of(label.kind) {
@@ -65,7 +63,6 @@ fn closes(labels: &[Label]) -> bool {
 }
 
 /// Returns whether a role is that of an argument.
-#[inline]
 fn is_argument(role: Role) -> bool {
     match role {
         Role::Name | Role::Number => true,
@@ -74,14 +71,12 @@ fn is_argument(role: Role) -> bool {
 }
 
 /// Returns whether the first token is that of an argument.
-#[inline]
 fn has_argument(labels: &[Label]) -> bool {
     !labels.is_empty() && is_argument(role_of(labels[0].kind))
 }
 
 /// Returns whether a token is in place before `others`. `needs_names` says that only names are
 /// accepted, `is_inside` that the token is inside a pair of braces.
-#[inline]
 pub fn fits(needs_names: bool, is_inside: bool, role: Role, others: &[Label]) -> bool {
     match role {
         Role::OpenBrace => closes(others) && (!needs_names || has_argument(others)),
@@ -104,7 +99,6 @@ pub fn marked_kind(kind: Kind, is_in_place: bool) -> Kind {
 
 /// Returns whether the tokens after one of this role are inside a pair of braces. `is_inside` says
 /// that it is inside one, `is_in_place` that it is in place.
-#[inline]
 pub fn inside_after(is_inside: bool, is_in_place: bool, role: Role) -> bool {
     match role {
         Role::OpenBrace => is_in_place,

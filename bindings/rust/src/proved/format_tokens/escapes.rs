@@ -21,7 +21,6 @@ fn escape_at(text: &str) -> Option<FirstUnit<'_>> {
 }
 
 /// Returns whether a token is text without braces.
-#[inline]
 fn is_text(kind: Kind) -> bool {
     match kind {
         Kind::Text => true,
@@ -61,7 +60,6 @@ fn is_apart(kind: Kind, character: Option<char>) -> bool {
 }
 
 /// Adds the token of a byte range if that is not empty.
-#[inline]
 fn put_run(tokens: &mut Vec<Token>, kind: Kind, from: usize, to: usize) -> Result<(), AllocError> {
     if from < to {
         tokens.try_push(Token {
@@ -73,7 +71,6 @@ fn put_run(tokens: &mut Vec<Token>, kind: Kind, from: usize, to: usize) -> Resul
 }
 
 /// Adds an escape of a byte range.
-#[inline]
 fn put_escape(tokens: &mut Vec<Token>, span: Range<usize>) -> Result<(), AllocError> {
     tokens.try_push(Token {
         kind: Kind::EscapeSequence,
@@ -83,7 +80,6 @@ fn put_escape(tokens: &mut Vec<Token>, span: Range<usize>) -> Result<(), AllocEr
 }
 
 /// Adds the parts of a token with these source characters.
-#[inline]
 fn put_parts(tokens: &mut Vec<Token>, token: &Token, text: &str) -> Result<(), AllocError> {
     let end = token.span.end;
     let mut from = token.span.start;
@@ -118,7 +114,6 @@ fn split_within(text: &str, width: usize) -> (&str, &str) {
 }
 
 /// Returns whether a text has a backslash.
-#[inline]
 fn has_backslash(text: &str) -> bool {
     for byte in text.as_bytes() {
         if *byte == b'\\' {
@@ -129,7 +124,6 @@ fn has_backslash(text: &str) -> bool {
 }
 
 /// Returns the tokens of an ordinary literal cut at its escapes.
-#[inline]
 fn cut(literal: &str, tokens: &[Token]) -> Result<Vec<Token>, AllocError> {
     let mut list = Vec::made_for(tokens.len())?;
     let mut rest = literal;
@@ -143,7 +137,6 @@ fn cut(literal: &str, tokens: &[Token]) -> Result<Vec<Token>, AllocError> {
 }
 
 /// Returns the tokens of an ordinary literal, which cover it, cut at its escapes.
-#[inline]
 pub fn cut_escapes(literal: &str, tokens: Vec<Token>) -> Result<Vec<Token>, AllocError> {
     if has_backslash(literal) {
         return cut(literal, tokens.as_slice());

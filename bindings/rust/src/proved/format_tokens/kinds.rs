@@ -7,6 +7,7 @@ use core::ops::Range;
 
 /// The kind of a token. The names are those of rust-analyzer's lexer of format strings where it has
 /// one.
+#[non_exhaustive]
 #[derive(Clone, Copy, Debug, Eq, PartialEq, Hash)]
 pub enum Kind {
     /// Literal text without braces.

@@ -20,7 +20,6 @@ fn wants_names(mode: ParseMode) -> bool {
 }
 
 /// Returns the snippet if it is the source literal of the input.
-#[inline]
 fn source_of<'a>(
     input: &str,
     style: Option<usize>,
@@ -41,7 +40,6 @@ fn source_of<'a>(
 
 /// Returns the byte offsets where the characters of an input start in its source literal, and then
 /// the end of the text.
-#[inline]
 fn literal_starts(
     input: &str,
     style: Option<usize>,
@@ -60,7 +58,6 @@ fn literal_starts(
 /// Returns the tokens of an input with their byte ranges, where escapes are in the tokens of the
 /// characters that they stand for, and the opening and the closing of `literal`, its source literal
 /// if it has one.
-#[inline]
 fn place_whole(
     input: &str,
     style: Option<usize>,
@@ -87,7 +84,6 @@ fn place_whole(
 
 /// Returns the tokens of an input with their byte ranges. `labels` are those that `label` adds; the
 /// other arguments are those of `tokens`.
-#[inline]
 pub fn place_labels(
     input: &str,
     style: Option<usize>,
@@ -129,7 +125,6 @@ pub fn place_labels(
 /// its own, `EscapeSequence`, and cuts the token that it is in. An escape that stands for a brace,
 /// or for another character of a placeholder, stays in the token of that character.
 ///
-#[inline]
 pub fn tokens(
     input: &str,
     style: Option<usize>,

@@ -11,11 +11,11 @@ pub(crate) mod parts;
 pub(crate) mod places;
 pub(crate) mod walk;
 
-#[cfg(feature = "std")]
+#[cfg(feature = "programs")]
 pub use kinds::Label;
 pub use kinds::{Kind, Token};
-#[cfg(feature = "std")]
+#[cfg(feature = "programs")]
 pub use lexer::place_labels;
 pub use lexer::tokens;
-#[cfg(feature = "std")]
+#[cfg(feature = "programs")]
 pub use walk::label;

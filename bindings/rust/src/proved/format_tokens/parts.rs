@@ -20,7 +20,6 @@ pub fn length_of(text: &str) -> usize {
 
 /// Adds a token of a text's first `bytes` bytes, and returns the rest of the text. Without bytes
 /// there is no token.
-#[inline]
 pub fn take<'a>(
     labels: &mut Vec<Label>,
     kind: Kind,
@@ -55,7 +54,6 @@ fn first(text: &str) -> Option<char> {
 }
 
 /// Returns the text after the first character, or an empty text if there is none.
-#[inline]
 pub fn after_first(text: &str) -> &str {
     let mut rest = text.chars();
     rest.next();
@@ -63,7 +61,6 @@ pub fn after_first(text: &str) -> &str {
 }
 
 /// Returns whether the first character is `c`.
-#[inline]
 pub fn begins(text: &str, c: char) -> bool {
     match first(text) {
         Some(d) => d == c,
@@ -82,7 +79,6 @@ pub enum Run {
 
 impl Run {
     /// Returns whether a character is of the class.
-    #[inline]
     fn passes(self, c: char) -> bool {
         match self {
             Run::Digits => c.is_ascii_digit(),
@@ -92,7 +88,6 @@ impl Run {
 }
 
 /// Returns the byte length of the longest prefix of a text whose characters are all of the class.
-#[inline]
 pub fn run_width(text: &str, run: Run) -> usize {
     let mut rest = text.chars();
     let mut width = 0;
@@ -106,7 +101,6 @@ pub fn run_width(text: &str, run: Run) -> usize {
 }
 
 /// Returns the kind of a word that is of a kind unless it is a lone `_`.
-#[inline]
 fn word_kind(kind: Kind, word: &str) -> Kind {
     if first(word) == Some('_') && first(after_first(word)).is_none() {
         Kind::Unexpected
@@ -116,13 +110,11 @@ fn word_kind(kind: Kind, word: &str) -> Kind {
 }
 
 /// Returns a number with one more digit, or 65536 if it is greater.
-#[inline]
 fn with_digit(number: u32, digit: char) -> u32 {
     (number * 10 + (u32::from(digit) - 48)).min(65536)
 }
 
 /// Returns whether the number that the digits at the start of a text write is above 65535.
-#[inline]
 fn is_over(text: &str) -> bool {
     let mut number = 0;
     let mut rest = text.chars();
@@ -146,7 +138,6 @@ fn integer_kind(text: &str) -> Kind {
 }
 
 /// Returns whether a text that begins with a name has an `r#` before it.
-#[inline]
 fn is_raw(text: &str, name: &str) -> bool {
     let hash = after_first(text);
     match first(name) {
@@ -156,7 +147,6 @@ fn is_raw(text: &str, name: &str) -> bool {
 }
 
 /// Adds the tokens of a position.
-#[inline]
 pub fn position<'a>(
     labels: &mut Vec<Label>,
     position: &Position<'_>,
@@ -180,7 +170,6 @@ pub fn position<'a>(
 }
 
 /// Adds the tokens of a count.
-#[inline]
 fn count<'a>(
     labels: &mut Vec<Label>,
     count: &Count<'_>,
@@ -213,7 +202,6 @@ fn count<'a>(
 }
 
 /// Adds the tokens of a width, with the flag `0` if it is set.
-#[inline]
 fn width<'a>(
     labels: &mut Vec<Label>,
     zero_pad: bool,
@@ -225,7 +213,6 @@ fn width<'a>(
 }
 
 /// Adds the tokens of a precision, with the dot before it.
-#[inline]
 fn precision<'a>(
     labels: &mut Vec<Label>,
     precision: &Count<'_>,
@@ -236,7 +223,6 @@ fn precision<'a>(
 }
 
 /// Returns the byte length of a fill.
-#[inline]
 fn fill_width(fill: Option<char>) -> usize {
     match fill {
         Some(c) => c.len_utf8(),
@@ -245,7 +231,6 @@ fn fill_width(fill: Option<char>) -> usize {
 }
 
 /// Returns the byte length of an alignment.
-#[inline]
 fn align_width(align: Alignment) -> usize {
     match align {
         Alignment::AlignLeft | Alignment::AlignRight | Alignment::AlignCenter => 1,
@@ -254,7 +239,6 @@ fn align_width(align: Alignment) -> usize {
 }
 
 /// Returns the byte length of a sign.
-#[inline]
 fn sign_width(sign: Option<Sign>) -> usize {
     match sign {
         Some(Sign::Plus | Sign::Minus) => 1,
@@ -272,7 +256,6 @@ fn type_width(debug_hex: Option<DebugHex>, ty: &str) -> usize {
 }
 
 /// Adds the tokens of a format specification.
-#[inline]
 fn format<'a>(
     labels: &mut Vec<Label>,
     format: &FormatSpec<'_>,
@@ -298,7 +281,6 @@ fn format<'a>(
 }
 
 /// Adds the tokens of a specification, with the colon before it.
-#[inline]
 pub fn specification<'a>(
     labels: &mut Vec<Label>,
     mode: ParseMode,

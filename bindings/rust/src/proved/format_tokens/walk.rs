@@ -19,7 +19,6 @@ fn before_brace(text: &str) -> Option<&str> {
 }
 
 /// Returns whether the first `bytes` bytes of a text end with a closing brace.
-#[inline]
 fn is_closed(bytes: usize, text: &str) -> bool {
     match text.parts_at(bytes) {
         Some((front, _)) => before_brace(front).is_some(),
@@ -29,7 +28,6 @@ fn is_closed(bytes: usize, text: &str) -> bool {
 
 /// Adds the tokens of the first `bytes` bytes of a text, which the call reads in place of a closing
 /// brace, and returns the rest of the text.
-#[inline]
 fn skip<'a>(labels: &mut Vec<Label>, bytes: usize, text: &'a str) -> Result<&'a str, AllocError> {
     let brace = usize::from(is_closed(bytes, text));
     let close = take(labels, Kind::Unexpected, bytes.saturating_sub(brace), text)?;
@@ -38,7 +36,6 @@ fn skip<'a>(labels: &mut Vec<Label>, bytes: usize, text: &'a str) -> Result<&'a 
 
 /// Adds the tokens of a placeholder at the start of a text, and returns the rest of the text after
 /// the call that read it: `rest_len` bytes.
-#[inline]
 fn placeholder<'a>(
     labels: &mut Vec<Label>,
     mode: ParseMode,
@@ -67,7 +64,6 @@ fn placeholder<'a>(
 
 /// Returns the byte length of the doubled brace at the start of a piece of literal text, or 0 if it
 /// starts with no brace.
-#[inline]
 fn escape_width(text: &str) -> usize {
     if begins(text, '{') || begins(text, '}') {
         2
@@ -78,7 +74,6 @@ fn escape_width(text: &str) -> usize {
 
 /// Adds the tokens of a piece of literal text at the start of a text, and returns the rest of the
 /// text after it: `rest_len` bytes.
-#[inline]
 fn literal<'a>(
     labels: &mut Vec<Label>,
     rest_len: usize,
@@ -96,7 +91,6 @@ fn literal<'a>(
 /// Adds the labels of a call at the start of a text, and returns the rest of the text after it:
 /// `rest_len` bytes. `piece` is the piece that `Parser::next_into` returned, and `argument` the one
 /// into which it read a placeholder.
-#[inline]
 pub fn label<'a>(
     labels: &mut Vec<Label>,
     mode: ParseMode,
@@ -120,7 +114,6 @@ pub fn label<'a>(
 }
 
 /// Returns the labels of an input, by the calls of a parser at its start.
-#[inline]
 fn labels_by<'a>(
     parser: &mut Parser<'a>,
     mode: ParseMode,
@@ -143,7 +136,6 @@ fn labels_by<'a>(
 }
 
 /// Returns the labels of a text, none of them marked.
-#[inline]
 pub fn labels(input: &str, mode: ParseMode) -> Result<Vec<Label>, AllocError> {
     let mut parser = Parser::new(input, None, None, false, mode)?;
     labels_by(&mut parser, mode, input)

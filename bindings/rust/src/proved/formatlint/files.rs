@@ -4,18 +4,22 @@
 // That source has the contracts, and is proved. That this text means the same is only tested.
 
 use crate::proved::finding_forms::{put_end, put_finding, put_start, File};
-use crate::proved::formatlint::rewrites::{apply_rewrite, Rewrite};
+use crate::proved::formatlint::package_names::PackageNames;
+use crate::proved::formatlint::rewrites::{apply_rewrite, keep_certain, Rewrite, RewrittenFile};
 use crate::proved::formatlint::totals::Totals;
 use crate::proved::formatlint::walk::Walk;
 use crate::proved::lint_program::{
-    is_option, print_hint, replace, Change, Editions, Failure, Recorder,
+    is_option, print_hint, replace, shown_bytes, Change, Failure, LeftText, Recorder,
 };
 use crate::proved::lint_words::Form;
+use crate::proved::manifest::{FileRules, Package, Packages};
 use crate::proved::piece_listing::run::write_whole;
 use crate::proved::rust_trees::{BreakKind, Places};
+use crate::proved::shown_text::{put_shown, Kind};
 use crate::proved::source_lint::file_faults;
 use crate::proved::source_report::{Options, Report};
 use crate::proved::unified_diff::put_diff;
+use crate::shim::alloc::AllocError;
 use crate::shim::host::fs;
 use crate::shim::prelude::*;
 use std::io;
@@ -26,6 +30,9 @@ const MOST: usize = 64 << 20;
 
 /// The number of bytes of messages above which they are written, although more may come.
 const CHUNK: usize = 1 << 16;
+
+/// The id of the warning that a named argument is used by its index.
+const POSITION_ID: &str = "name-used-by-index";
 
 /// A request to read files and folders.
 pub struct Request<'a> {
@@ -51,7 +58,8 @@ pub struct Request<'a> {
 struct Run<'a> {
     request: &'a Request<'a>,
     options: Options<'a>,
-    editions: Editions<'a>,
+    packages: Packages,
+    names: PackageNames,
     totals: Totals,
     /// The text that is still to be written.
     out: String,
@@ -62,7 +70,6 @@ struct Run<'a> {
 }
 
 /// Returns why a file is not read further.
-#[inline]
 fn break_words(kind: BreakKind) -> &'static str {
     match kind {
         BreakKind::UnclosedDelimiter => "this delimiter is not closed",
@@ -78,7 +85,6 @@ pub fn write(rt: &crate::shim::host::HostRuntime, text: &str) -> Result<(), Fail
 }
 
 /// Writes bytes to standard output.
-#[inline]
 fn write_bytes(rt: &crate::shim::host::HostRuntime, bytes: &[u8]) -> Result<(), Failure> {
     let mut writer = Recorder::new(rt.stdout());
     match write_whole(&mut writer, bytes) {
@@ -90,9 +96,14 @@ fn write_bytes(rt: &crate::shim::host::HostRuntime, bytes: &[u8]) -> Result<(), 
     }
 }
 
+/// Writes bytes of a file to standard output, on a terminal as drawings have them.
+fn write_shown(rt: &crate::shim::host::HostRuntime, bytes: &[u8]) -> Result<(), Failure> {
+    let mut drawing = String::new();
+    write_bytes(rt, shown_bytes(rt, bytes, &mut drawing)?)
+}
+
 impl<'a> Run<'a> {
     /// Writes the text that is still to be written.
-    #[inline]
     fn flush(&mut self, rt: &crate::shim::host::HostRuntime) -> Result<(), Failure> {
         if !self.out.is_empty() {
             self.totals.clear_progress(rt);
@@ -107,7 +118,6 @@ impl<'a> Run<'a> {
     }
 
     /// Appends the messages of a file, and writes them from time to time.
-    #[inline]
     fn put_findings<'x>(
         &mut self,
         rt: &crate::shim::host::HostRuntime,
@@ -144,7 +154,6 @@ struct FileText<'a> {
 }
 
 /// Returns the text at the start of a file, and how much of it that is.
-#[inline]
 fn text_of(bytes: &[u8]) -> FileText<'_> {
     let is_cut = bytes.len() > MOST;
     let front = bytes.get(..MOST).unwrap_or(bytes);
@@ -171,7 +180,6 @@ fn text_of(bytes: &[u8]) -> FileText<'_> {
 }
 
 /// Adds a failure to the totals if a file was not read to its end.
-#[inline]
 fn add_break(
     rt: &crate::shim::host::HostRuntime,
     totals: &mut Totals,
@@ -193,26 +201,59 @@ fn add_break(
     }
 }
 
+/// Takes the warnings out of a report that the manifest of the file allows.
+fn drop_allowed(report: &mut Report, rules: FileRules) {
+    if !rules.warns_of_positions {
+        report.findings.retain(|finding| finding.id != POSITION_ID);
+    }
+}
+
 /// Reads a stream up to its end or the most bytes that are read.
-#[inline]
 fn read_all<R: Read>(rt: &crate::shim::host::HostRuntime, stream: R) -> io::Result<Vec<u8>> {
     let mut bytes = Vec::made_for(CHUNK)?;
     stream.take(MOST as u64 + 1).read_to_end(&mut bytes)?;
     Ok(bytes)
 }
 
+/// An open file, and the bytes that were read of it.
+struct SourceFile {
+    file: fs::File,
+    bytes: Vec<u8>,
+}
+
+/// Opens a file and reads it. Returns `None` if a walk found it and it does not lie there any more.
+fn open_source(
+    rt: &crate::shim::host::HostRuntime,
+    path: &str,
+    walk: Option<&Walk<'_>>,
+) -> io::Result<Option<SourceFile>> {
+    let file = fs::open(rt, path)?;
+    if let Some(walk) = walk {
+        if !walk.holds(rt, path, &file)? {
+            return Ok(None);
+        }
+    }
+    let bytes = read_all(rt, &file)?;
+    Ok(Some(SourceFile { file, bytes }))
+}
+
 /// Where the bytes of a file are from.
-#[derive(Clone, Copy, PartialEq)]
-enum Origin {
-    /// A file.
-    File,
+#[derive(Clone, Copy)]
+enum Origin<'f> {
+    /// A file, which is still open.
+    File(&'f fs::File),
     /// Standard input.
     Stdin,
 }
 
+/// Returns the package of a file of which the project says this, or `None` if it is of none.
+#[inline]
+fn package_of(packages: &Packages, rules: FileRules) -> Option<&Package> {
+    packages.package(rules.package?)
+}
+
 impl<'a> Run<'a> {
     /// Writes the messages of a report on a file, of which this extent was read.
-    #[inline]
     fn put_report<'x>(
         &mut self,
         rt: &crate::shim::host::HostRuntime,
@@ -236,12 +277,11 @@ impl<'a> Run<'a> {
     }
 
     /// Writes the new text of a file where the request says. Returns whether that was done.
-    #[inline]
     fn put_rewritten(
         &mut self,
         rt: &crate::shim::host::HostRuntime,
         path: &str,
-        origin: Origin,
+        origin: Origin<'_>,
         change: Change,
         old: &str,
         new: &str,
@@ -251,45 +291,76 @@ impl<'a> Run<'a> {
             Change::Diff => {
                 let mut diff = String::new();
                 put_diff(&mut diff, path, old, new)?;
-                write(rt, diff.as_str())?;
+                write_shown(rt, diff.as_bytes())?;
             }
             Change::Check => {
-                write(rt, path)?;
-                write(rt, "\n")?;
+                let mut line = String::new();
+                put_shown(&mut line, Kind::Line, path)?;
+                line.try_push('\n')?;
+                write(rt, line.as_str())?;
             }
-            Change::Write if origin == Origin::Stdin => write(rt, new)?,
             Change::Write => {
-                if let Err(failure) = replace(rt, path, old.as_bytes(), new.as_bytes()) {
+                let Origin::File(file) = origin else {
+                    write_shown(rt, new.as_bytes())?;
+                    return Ok(true);
+                };
+                if let Err(failure) = replace(rt, path, file, old.as_bytes(), new.as_bytes()) {
                     self.totals.fail_step(rt, path, &failure);
-                    return Ok(false);
+                    return Ok(failure.left == LeftText::New);
                 }
             }
         }
         Ok(true)
     }
 
+    /// Returns a text with what the request changes in it, in calls whose macro is known for
+    /// certain. The facts of the package are read only if any call would change.
+    fn rewritten(
+        &mut self,
+        rt: &crate::shim::host::HostRuntime,
+        text: &str,
+        origin: Origin<'_>,
+        rules: FileRules,
+    ) -> Result<RewrittenFile, AllocError> {
+        let mut rewrite = self.request.rewrite;
+        rewrite.inlines = rewrite.inlines && rules.may_inline;
+        let outcome = apply_rewrite(text, &self.options, rewrite)?;
+        if outcome.text.is_none() {
+            return Ok(outcome);
+        }
+        let package = package_of(&self.packages, rules);
+        if matches!(origin, Origin::Stdin) {
+            self.names.read_with(rt, package, text)?;
+        } else {
+            self.names.read(rt, package, text)?;
+        }
+        let facts = &self.names.facts;
+        keep_certain(text, &self.options, facts, rewrite, outcome)
+    }
+
     /// Changes a file that was read whole, and writes what the request wants of it.
-    #[inline]
     fn change_file(
         &mut self,
         rt: &crate::shim::host::HostRuntime,
         path: &str,
         text: &str,
-        origin: Origin,
+        origin: Origin<'_>,
         change: Change,
+        rules: FileRules,
     ) -> Result<(), Failure> {
-        let outcome = apply_rewrite(text, &self.options, self.request.rewrite)?;
-        let is_source = origin == Origin::Stdin && change == Change::Write;
+        let mut outcome = self.rewritten(rt, text, origin, rules)?;
+        drop_allowed(&mut outcome.report, rules);
+        let is_source = matches!(origin, Origin::Stdin) && change == Change::Write;
         let Some(new) = &outcome.text else {
             if is_source {
-                write(rt, text)?;
+                write_shown(rt, text.as_bytes())?;
             }
             self.totals.add(&outcome.report);
             self.totals.add_inlinings(&outcome);
             return self.put_report(rt, path, text, Extent::Whole, &outcome.report);
         };
         if !self.put_rewritten(rt, path, origin, change, text, new.as_str())? {
-            return self.report(rt, path, text, Extent::Whole);
+            return self.report(rt, path, text, Extent::Whole, rules);
         }
         self.totals.add(&outcome.report);
         self.totals.add_inlinings(&outcome);
@@ -298,48 +369,66 @@ impl<'a> Run<'a> {
     }
 
     /// Reads a text of a file, and writes the messages about it.
-    #[inline]
     fn report(
         &mut self,
         rt: &crate::shim::host::HostRuntime,
         path: &str,
         text: &str,
         extent: Extent,
+        rules: FileRules,
     ) -> Result<(), Failure> {
-        let report = file_faults(text, &self.options)?;
+        let mut report = file_faults(text, &self.options)?;
+        drop_allowed(&mut report, rules);
         self.totals.add(&report);
         self.put_report(rt, path, text, extent, &report)
     }
 
+    /// Returns what the project says of a file. The reason why its manifest was not understood is
+    /// written, the first time.
+    fn rules(
+        &mut self,
+        rt: &crate::shim::host::HostRuntime,
+        path: &str,
+    ) -> Result<FileRules, Failure> {
+        let rules = match self.packages.rules(rt, path) {
+            Ok(rules) => rules,
+            Err(error) => return Err(Failure::new(error)),
+        };
+        if let Some(failure) = self.packages.new_failure(rules) {
+            self.totals.fail_manifest(rt, failure);
+        }
+        Ok(rules)
+    }
+
     /// Reads the bytes of a file, and writes the messages about it.
-    #[inline]
     fn lint(
         &mut self,
         rt: &crate::shim::host::HostRuntime,
         path: &str,
         bytes: &[u8],
-        origin: Origin,
+        origin: Origin<'_>,
     ) -> Result<(), Failure> {
         let FileText { text, extent } = text_of(bytes);
-        self.options.is_from_2021 = match self.editions.is_from_2021(rt, path) {
-            Ok(is_from_2021) => is_from_2021,
-            Err(error) => return Err(Failure::new(error)),
-        };
+        let rules = self.rules(rt, path)?;
+        self.options.is_from_2021 = rules.edition.is_from_2021();
         let Some(change) = self.request.change else {
-            return self.report(rt, path, text, extent);
+            return self.report(rt, path, text, extent, rules);
         };
         match extent {
-            Extent::Whole => self.change_file(rt, path, text, origin, change),
-            Extent::Text if origin == Origin::Stdin && change == Change::Write => {
-                write_bytes(rt, bytes)?;
-                self.report(rt, path, text, extent)
+            Extent::Whole if rules.may_write => {
+                self.change_file(rt, path, text, origin, change, rules)
             }
-            Extent::Text | Extent::Front => self.report(rt, path, text, extent),
+            Extent::Whole | Extent::Text
+                if matches!(origin, Origin::Stdin) && change == Change::Write =>
+            {
+                write_shown(rt, bytes)?;
+                self.report(rt, path, text, extent, rules)
+            }
+            _ => self.report(rt, path, text, extent, rules),
         }
     }
 
     /// Reads standard input.
-    #[inline]
     fn lint_stdin(&mut self, rt: &crate::shim::host::HostRuntime) -> Result<(), Failure> {
         print_hint(rt);
         let path = self.request.stdin_path.unwrap_or("<stdin>");
@@ -352,19 +441,21 @@ impl<'a> Run<'a> {
         }
     }
 
-    /// Reads a file.
-    #[inline]
+    /// Reads a file, which a walk found or the request names.
     fn lint_file(
         &mut self,
         rt: &crate::shim::host::HostRuntime,
         path: &str,
+        walk: Option<&Walk<'_>>,
     ) -> Result<(), Failure> {
-        let result = match fs::open(rt, path) {
-            Ok(file) => read_all(rt, file),
-            Err(error) => Err(error),
-        };
-        match result {
-            Ok(bytes) => self.lint(rt, path, bytes.as_slice(), Origin::File),
+        match open_source(rt, path, walk) {
+            Ok(Some(SourceFile { file, bytes })) => {
+                self.lint(rt, path, bytes.as_slice(), Origin::File(&file))
+            }
+            Ok(None) => {
+                self.totals.fail_for(rt, path, "another program moved it");
+                Ok(())
+            }
             Err(error) => {
                 self.totals.fail(rt, path, &error);
                 Ok(())
@@ -373,25 +464,27 @@ impl<'a> Run<'a> {
     }
 
     /// Reads the files below a folder.
-    #[inline]
     fn lint_folder(
         &mut self,
         rt: &crate::shim::host::HostRuntime,
         path: &str,
     ) -> Result<(), Failure> {
-        let mut walk = Walk::new(path, self.request.excluded_names)?;
+        let mut walk = Walk::new(rt, path, self.request.excluded_names)?;
+        if let Err(error) = self.packages.enter(rt, path) {
+            return Err(Failure::new(error));
+        }
         for _ in 0..u64::MAX {
             match walk.next(rt, &mut self.totals)? {
-                Some(path) => self.lint_file(rt, path.as_str())?,
+                Some(path) => self.lint_file(rt, path.as_str(), Some(&walk))?,
                 None => break,
             }
             self.totals.show_progress(rt);
         }
+        self.packages.leave();
         Ok(())
     }
 
     /// Reads a file or a folder, or standard input.
-    #[inline]
     fn lint_path(
         &mut self,
         rt: &crate::shim::host::HostRuntime,
@@ -402,7 +495,7 @@ impl<'a> Run<'a> {
         }
         match fs::metadata(rt, path) {
             Ok(data) if data.is_dir() => self.lint_folder(rt, path),
-            Ok(_) => self.lint_file(rt, path),
+            Ok(_) => self.lint_file(rt, path, None),
             Err(error) => {
                 self.totals.fail(rt, path, &error);
                 if is_option(path) {
@@ -414,7 +507,6 @@ impl<'a> Run<'a> {
     }
 
     /// Reads all paths of the request.
-    #[inline]
     fn lint_all(&mut self, rt: &crate::shim::host::HostRuntime) -> Result<(), Failure> {
         put_start(&mut self.out, self.request.form, self.request.version)?;
         self.flush(rt)?;
@@ -436,7 +528,6 @@ impl<'a> Run<'a> {
 
 /// Returns whether standard output has the new source of standard input, so that messages are
 /// written to standard error.
-#[inline]
 fn is_aside(request: &Request<'_>) -> bool {
     let is_stdin_read =
         request.paths.contains(&"-") || request.paths.is_empty() && request.stdin_path.is_some();
@@ -445,7 +536,6 @@ fn is_aside(request: &Request<'_>) -> bool {
 
 /// Reads all paths of a request, and writes the messages about them. Returns the totals, even if
 /// the run ended with a failure.
-#[inline]
 pub fn lint<'a>(
     rt: &crate::shim::host::HostRuntime,
     request: &'a Request<'a>,
@@ -454,7 +544,8 @@ pub fn lint<'a>(
     let mut run = Run {
         request,
         options,
-        editions: Editions::new(rt, request.edition),
+        packages: Packages::new(rt, request.edition, request.rewrite.inlines),
+        names: PackageNames::new(rt),
         totals: Totals::new(rt),
         out: String::new(),
         has_messages: false,

@@ -23,6 +23,7 @@ pub struct Inlinings {
     calls_without_literal: usize,
     other_meaning: usize,
     assembly: usize,
+    uncertain_calls: usize,
     spoiled_calls: usize,
 }
 
@@ -40,6 +41,7 @@ pub const NO_CALLS: Inlinings = Inlinings {
     calls_without_literal: 0,
     other_meaning: 0,
     assembly: 0,
+    uncertain_calls: 0,
     spoiled_calls: 0,
 };
 
@@ -51,7 +53,6 @@ fn count(number: &mut usize) {
 
 impl Inlinings {
     /// Counts a call that is left.
-    #[inline]
     fn add_obstacle(&mut self, reason: Obstacle) {
         match reason {
             Obstacle::Uncounted => count(&mut self.uncounted_calls),
@@ -68,8 +69,8 @@ impl Inlinings {
     }
 
     /// Counts the calls of a file.
-    #[inline]
     pub fn add(&mut self, file: &RewrittenFile) {
+        self.uncertain_calls = self.uncertain_calls.saturating_add(file.uncertain_calls);
         for call in &file.calls {
             match *call {
                 CallInlining::Inlined if file.has_inlines => count(&mut self.inlined_calls),
@@ -82,8 +83,7 @@ impl Inlinings {
     }
 
     /// Returns how many calls are left for each reason, with the reason.
-    #[inline]
-    pub fn rows(&self) -> [(usize, &'static str); 12] {
+    pub fn rows(&self) -> [(usize, &'static str); 13] {
         [
             (self.calls_without_variable, "no argument is a variable"),
             (self.mixed_calls, "another argument is no variable"),
@@ -102,6 +102,7 @@ impl Inlinings {
             (self.calls_without_literal, "the literal is not known"),
             (self.other_meaning, "it would mean something else"),
             (self.assembly, "a template of assembly"),
+            (self.uncertain_calls, "the macro may be another one"),
             (
                 self.spoiled_calls,
                 "the file has other faults with them, or breaks",

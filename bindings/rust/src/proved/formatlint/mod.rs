@@ -6,6 +6,7 @@
 use crate::shim::prelude::*;
 pub(crate) mod files;
 pub(crate) mod inlinings;
+pub(crate) mod package_names;
 pub(crate) mod rewrites;
 pub(crate) mod totals;
 pub(crate) mod walk;
@@ -17,6 +18,7 @@ use crate::proved::lint_program::{
     Change, VERSION,
 };
 use crate::proved::lint_words::Form;
+use crate::proved::shown_text::{put_shown, Kind};
 use crate::proved::source_report::Options;
 use crate::shim::alloc::AllocError;
 use crate::shim::clap::error::ErrorKind;
@@ -49,7 +51,6 @@ fn value_error(rt: &crate::shim::host::HostRuntime, reason: &str) -> Result<u8, 
 }
 
 /// Appends the ids of all kinds of faults, each in a line.
-#[inline]
 fn put_ids(out: &mut String) -> Result<(), AllocError> {
     for rule in &RULES {
         out.try_push_str(rule.id)?;
@@ -59,7 +60,6 @@ fn put_ids(out: &mut String) -> Result<(), AllocError> {
 }
 
 /// Writes a text to standard output. Returns the exit status.
-#[inline]
 fn print(rt: &crate::shim::host::HostRuntime, text: &str) -> u8 {
     match write(rt, text) {
         Ok(()) => 0,
@@ -69,7 +69,6 @@ fn print(rt: &crate::shim::host::HostRuntime, text: &str) -> u8 {
 
 /// Returns the id that is nearest to a word by the number of characters to change, the first of
 /// several, or `None` if each wants more than a third of the word changed, as rustc does for names.
-#[inline]
 fn similar_id(word: &str) -> Result<Option<&'static str>, AllocError> {
     let mut limit = word.len().max(3) / 3;
     let mut id = None;
@@ -83,10 +82,17 @@ fn similar_id(word: &str) -> Result<Option<&'static str>, AllocError> {
     Ok(id)
 }
 
+/// Returns a word as messages have it.
+fn shown_word(word: &str) -> Result<String, AllocError> {
+    let mut out = String::new();
+    put_shown(&mut out, Kind::Line, word)?;
+    Ok(out)
+}
+
 /// Returns the error that no kind of fault has this id.
-#[inline]
-fn id_error(rt: &crate::shim::host::HostRuntime, id: &str) -> Result<u8, Error> {
-    let reason = match similar_id(id)? {
+fn id_error(rt: &crate::shim::host::HostRuntime, wrong_id: &str) -> Result<u8, Error> {
+    let id = shown_word(wrong_id)?;
+    let reason = match similar_id(wrong_id)? {
         Some(similar_id) => crate::shim::try_format!(
             "no kind of fault has the id '{id}'\n\n  tip: a similar id exists: '{similar_id}'"
         )?,
@@ -99,7 +105,6 @@ fn id_error(rt: &crate::shim::host::HostRuntime, id: &str) -> Result<u8, Error> 
 
 /// Writes the explanation of the kind of fault with this id. Returns the exit status, and `Err` if
 /// no kind has the id or an allocation fails.
-#[inline]
 fn explain(rt: &crate::shim::host::HostRuntime, id: &str) -> Result<u8, Error> {
     let Some(rule) = rule_of(id) else {
         return id_error(rt, id);
@@ -110,7 +115,6 @@ fn explain(rt: &crate::shim::host::HostRuntime, id: &str) -> Result<u8, Error> {
 }
 
 /// Reads one string. Returns the exit status.
-#[inline]
 fn read_string(rt: &crate::shim::host::HostRuntime, matches: &ArgMatches<'_>) -> Result<u8, Error> {
     if matches
         .get_strs("path")
@@ -132,7 +136,6 @@ fn is_preview(change: Option<Change>) -> bool {
 
 /// Returns the exit status of a run with these totals: 3 if something could not be read or written,
 /// otherwise 1 if there is a fault, or for a preview if a file would change, and otherwise 0.
-#[inline]
 fn status_of(totals: &Totals, change: Option<Change>) -> u8 {
     let is_found = if is_preview(change) {
         totals.changed_files > 0
@@ -149,7 +152,6 @@ fn status_of(totals: &Totals, change: Option<Change>) -> u8 {
 }
 
 /// Reads files and folders. Returns the exit status.
-#[inline]
 fn read_files(
     rt: &crate::shim::host::HostRuntime,
     matches: &ArgMatches<'_>,
@@ -166,21 +168,21 @@ fn read_files(
             totals.show_inlinings(rt);
         }
     }
-    if !matches.get_flag("quiet") && !matches!(request.form, Form::Json | Form::Sarif) {
+    if !matches.get_flag("quiet") && !matches!(request.form, Form::Json { .. } | Form::Sarif) {
         totals.sum_up(rt, is_preview(request.change));
     }
     status_of(&totals, request.change)
 }
 
 /// Reads the files and folders that the arguments name. Returns the exit status.
-#[inline]
 fn files_status(
     rt: &crate::shim::host::HostRuntime,
     matches: &ArgMatches<'_>,
 ) -> Result<u8, Error> {
     let table = match table_of(matches.get_strs("macro").unwrap_or(&[])) {
         Ok(table) => table,
-        Err(Some(word)) => {
+        Err(Some(wrong_word)) => {
+            let word = shown_word(wrong_word)?;
             let reason = crate::shim::try_format!(
                 "invalid value '{word}' for '--macro <NAME:INDEX>': \
                 it is the name of a macro and a number, as in say:0"
@@ -219,11 +221,31 @@ fn files_status(
     Ok(read_files(rt, matches, &request, options))
 }
 
+/// Returns the error of words that are wrong, which quotes them as messages have them: so they are
+/// wrong for the same reason, as no option or value of one has a character that only messages have.
+/// Returns the given error if the words are not wrong, but an allocation failed.
+fn words_error(
+    rt: &crate::shim::host::HostRuntime,
+    words: &[String],
+    error: Error,
+) -> Result<u8, Error> {
+    let mut shown_words = Vec::new();
+    for word in words {
+        shown_words.try_push(shown_word(word.as_str())?)?;
+    }
+    match command()?.try_get_matches_from(shown_words.as_slice()) {
+        Ok(_) => Err(error),
+        Err(shown_error) => Err(shown_error),
+    }
+}
+
 /// Reads the arguments of the program and runs their task. Returns the exit status, and `Err` if
 /// the arguments are invalid or request help or the version, or if an allocation fails.
-#[inline]
 fn status(rt: &crate::shim::host::HostRuntime, words: &[String]) -> Result<u8, Error> {
-    let matches = command()?.try_get_matches_from(words)?;
+    let matches = match command()?.try_get_matches_from(words) {
+        Ok(matches) => matches,
+        Err(error) => return words_error(rt, words, error),
+    };
     if matches.get_flag("list-ids") {
         let mut out = String::new();
         put_ids(&mut out)?;
@@ -248,7 +270,6 @@ fn fail(rt: &crate::shim::host::HostRuntime, reason: &str, status: u8) -> ExitCo
     ExitCode::from(status)
 }
 
-#[inline]
 pub fn main(rt: crate::shim::host::HostRuntime) -> ExitCode {
     let words: Vec<String> = match env::args(&rt) {
         Ok(words) => match words.collect_in() {

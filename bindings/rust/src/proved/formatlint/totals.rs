@@ -6,8 +6,9 @@
 use crate::proved::format_calls::Reason;
 use crate::proved::formatlint::inlinings::{Inlinings, NO_CALLS};
 use crate::proved::formatlint::rewrites::RewrittenFile;
-use crate::proved::lint_program::{Progress, StepFailure};
+use crate::proved::lint_program::{LeftText, Progress, StepFailure};
 use crate::proved::lint_words::{put_failure, put_place_failure, system_words};
+use crate::proved::manifest::{ManifestFailure, ManifestFault, Misfit};
 use crate::proved::piece_listing::verdict::RunFault;
 use crate::proved::rust_trees::Place;
 use crate::proved::source_report::{CallReading, Report};
@@ -68,23 +69,40 @@ fn plural_ending(number: usize) -> &'static str {
     }
 }
 
-/// Appends the line that says why the file with this path was not replaced.
-#[inline]
+/// Appends the line that says which step of the writing of the file with this path failed, and
+/// where its old text is.
 fn put_step(out: &mut String, path: &str, failure: &StepFailure) -> Result<(), AllocError> {
-    let step = failure.step;
-    let reason = match &failure.error {
-        Some(error) => {
-            let words = crate::shim::try_format!("{error}")?;
-            let text = system_words(words.as_str());
-            crate::shim::try_format!("not written: {step}: {text}")?
-        }
-        None => crate::shim::try_format!("not written: {step}")?,
+    let state = match failure.left {
+        LeftText::Old => "not written",
+        LeftText::New => "written, but",
+        LeftText::Part => "not written whole",
     };
+    let step = failure.step;
+    let mut reason = crate::shim::try_format!("{state}: {step}")?;
+    if let Some(error) = &failure.error {
+        let words = crate::shim::try_format!("{error}")?;
+        reason.try_push_str(": ")?;
+        reason.try_push_str(system_words(words.as_str()))?;
+    }
+    if let Some(old_path) = &failure.old_path {
+        reason.try_push_str("; its old text is in ")?;
+        reason.try_push_str(old_path.as_str())?;
+    } else if failure.left == LeftText::Part {
+        reason.try_push_str("; its old text is lost")?;
+    }
     put_failure(out, path, RunFault::Write, reason.as_str())
 }
 
+/// Returns the words for a key of a manifest whose value is none.
+fn misfit_words(misfit: Misfit) -> &'static str {
+    match misfit {
+        Misfit::Edition => "unknown edition",
+        Misfit::RustVersion => "unknown version of Rust",
+        Misfit::Workspace => "its workspace lacks a value that it refers to",
+    }
+}
+
 /// Writes how many calls there are for each reason, if there is one.
-#[inline]
 fn show_rows(rt: &crate::shim::host::HostRuntime, rows: &[(usize, &'static str)]) {
     for (number, reason) in rows {
         if *number > 0 {
@@ -95,7 +113,6 @@ fn show_rows(rt: &crate::shim::host::HostRuntime, rows: &[(usize, &'static str)]
 
 impl UnreadCalls {
     /// Counts a call.
-    #[inline]
     fn add(&mut self, reason: Reason) {
         match reason {
             Reason::NoArgument => count(&mut self.missing_strings),
@@ -108,7 +125,6 @@ impl UnreadCalls {
     }
 
     /// Returns how many calls there are for each reason, with the reason.
-    #[inline]
     fn rows(&self) -> [(usize, &'static str); 11] {
         [
             (self.missing_strings, "no format string"),
@@ -128,7 +144,6 @@ impl UnreadCalls {
 
 impl Totals {
     /// Returns the totals of a run that begins now.
-    #[inline]
     pub fn new(rt: &crate::shim::host::HostRuntime) -> Totals {
         Totals {
             files: 0,
@@ -171,7 +186,6 @@ impl Totals {
     }
 
     /// Counts a call.
-    #[inline]
     fn add_call(&mut self, reading: CallReading) {
         count(&mut self.calls);
         match reading {
@@ -187,7 +201,6 @@ impl Totals {
     }
 
     /// Counts a file, its calls, and the faults and warnings in it.
-    #[inline]
     pub fn add(&mut self, report: &Report) {
         count(&mut self.files);
         for call in &report.calls {
@@ -209,15 +222,13 @@ impl Totals {
     }
 
     /// Counts a changed file, and how many faults and warnings are fixed in it.
-    #[inline]
     pub fn add_change(&mut self, fixes: usize) {
         count(&mut self.changed_files);
         self.fixed_faults = self.fixed_faults.saturating_add(fixes);
     }
 
-    /// Counts a failure, and writes to standard error why the file with this path was not
-    /// replaced.
-    #[inline]
+    /// Counts a failure, and writes to standard error which step of the writing of the file with
+    /// this path failed.
     pub fn fail_step(
         &mut self,
         rt: &crate::shim::host::HostRuntime,
@@ -233,28 +244,44 @@ impl Totals {
         };
     }
 
-    /// Counts a failure, and writes to standard error why the file or folder with this path was not
-    /// read, in the words of the system.
-    #[inline]
-    pub fn fail(&mut self, rt: &crate::shim::host::HostRuntime, path: &str, error: &io::Error) {
-        count(&mut self.failures);
+    /// Writes a line about the file or folder with this path to standard error.
+    fn show_words(&mut self, rt: &crate::shim::host::HostRuntime, path: &str, words: &str) {
         self.progress.clear(rt);
         let mut out = String::new();
-        let result = match crate::shim::try_format!("{error}") {
-            Ok(words) => {
-                let reason = system_words(words.as_str());
-                put_failure(&mut out, path, RunFault::Read, reason)
-            }
-            Err(error) => Err(error),
-        };
-        let _ = match result {
+        let _ = match put_failure(&mut out, path, RunFault::Read, words) {
             Ok(()) => rt.eprint(out.as_str()),
             Err(_) => rt.eprintln("formatlint: out of memory"),
         };
     }
 
+    /// Counts a failure, and writes to standard error why the file or folder with this path was not
+    /// read, in the words of the system.
+    pub fn fail(&mut self, rt: &crate::shim::host::HostRuntime, path: &str, error: &io::Error) {
+        match crate::shim::try_format!("{error}") {
+            Ok(words) => self.fail_for(rt, path, system_words(words.as_str())),
+            Err(_) => self.fail_for(rt, path, "out of memory"),
+        }
+    }
+
+    /// Counts a failure, and writes to standard error why the file or folder with this path was not
+    /// read.
+    pub fn fail_for(&mut self, rt: &crate::shim::host::HostRuntime, path: &str, reason: &str) {
+        count(&mut self.failures);
+        self.show_words(rt, path, reason);
+    }
+
+    /// Writes to standard error that a file has the old text of another one. That is no failure.
+    pub fn show_old_text(&mut self, rt: &crate::shim::host::HostRuntime, path: &str, name: &str) {
+        let words = crate::shim::try_format!(
+            "has the old text of {name}: a run of formatlint is writing that file, or was ended"
+        );
+        match words {
+            Ok(words) => self.show_words(rt, path, words.as_str()),
+            Err(_) => self.show_words(rt, path, "has the old text of a file"),
+        }
+    }
+
     /// Counts a failure, and writes to standard error why a file was not read from a place on.
-    #[inline]
     pub fn fail_at(
         &mut self,
         rt: &crate::shim::host::HostRuntime,
@@ -271,6 +298,22 @@ impl Totals {
         };
     }
 
+    /// Counts a failure, and writes to standard error why a manifest was not understood.
+    pub fn fail_manifest(
+        &mut self,
+        rt: &crate::shim::host::HostRuntime,
+        failure: &ManifestFailure,
+    ) {
+        let path = failure.path.as_str();
+        match &failure.fault {
+            ManifestFault::System(error) => self.fail(rt, path, error),
+            ManifestFault::Encoding(place) => self.fail_at(rt, path, *place, "not UTF-8"),
+            ManifestFault::Syntax(place) => self.fail_at(rt, path, *place, "not TOML"),
+            ManifestFault::Length => self.fail_for(rt, path, "longer than 4 MiB"),
+            ManifestFault::Misfit(misfit) => self.fail_for(rt, path, misfit_words(*misfit)),
+        }
+    }
+
     /// Returns how many format strings were read.
     #[inline]
     fn strings(&self) -> usize {
@@ -278,7 +321,6 @@ impl Totals {
     }
 
     /// Writes how many faults are fixed and calls are inlined, and in how many files.
-    #[inline]
     fn show_changes(&self, rt: &crate::shim::host::HostRuntime, is_preview: bool) {
         let (faults, calls, files) = (
             self.fixed_faults,
@@ -302,7 +344,6 @@ impl Totals {
 
     /// Writes how many files and format strings were read, how many faults were found, and what is
     /// changed, or is to be changed where no file is written.
-    #[inline]
     pub fn sum_up(&self, rt: &crate::shim::host::HostRuntime, is_preview: bool) {
         let (files, strings, faults) = (self.files, self.strings(), self.faults);
         let (file_ending, string_ending) = (plural_ending(files), plural_ending(strings));
@@ -321,7 +362,6 @@ impl Totals {
     }
 
     /// Writes how many calls of known macros there are, and why strings were not read.
-    #[inline]
     pub fn show_counts(&self, rt: &crate::shim::host::HostRuntime) {
         let (files, calls, strings) = (self.files, self.calls, self.strings());
         let _ = crate::shim::eprintln_in!(rt; "files: {files}");
@@ -337,7 +377,6 @@ impl Totals {
     }
 
     /// Writes how many calls are inlined, and why the others that were read are left.
-    #[inline]
     pub fn show_inlinings(&self, rt: &crate::shim::host::HostRuntime) {
         let count = self.inlinings.inlined_calls;
         let rows = self.inlinings.rows();

@@ -4,9 +4,10 @@
 // That source has the contracts, and is proved. That this text means the same is only tested.
 
 use crate::proved::formatlint::totals::Totals;
+use crate::proved::lint_program::{is_same, name_before, path_of};
 use crate::shim::alloc::AllocError;
 use crate::shim::host::fs;
-use crate::shim::host::fs::DirEntry;
+use crate::shim::host::fs::{DirEntry, File};
 use crate::shim::prelude::*;
 use std::io;
 
@@ -21,6 +22,10 @@ struct Entry {
 /// are not followed, and hidden folders, those with the name `target` and the excluded names are
 /// left out.
 pub struct Walk<'a> {
+    /// The path of the folder.
+    folder: &'a str,
+    /// Its path from the root on, without links, or `None` if the system does not say it.
+    real_folder: Option<String>,
     /// The files and folders that are still to be read, the next one last.
     rest: Vec<Entry>,
     /// The names of files and folders to leave out.
@@ -28,7 +33,6 @@ pub struct Walk<'a> {
 }
 
 /// Returns the path of a name in a folder. An empty path is that of the current folder.
-#[inline]
 fn join(folder: &str, name: &str) -> Result<String, AllocError> {
     let mut path = String::made_from(folder)?;
     if !folder.is_empty() && !folder.ends_with('/') {
@@ -38,35 +42,72 @@ fn join(folder: &str, name: &str) -> Result<String, AllocError> {
     Ok(path)
 }
 
+/// Returns the path that messages and calls give a folder, whose empty path is the current one.
+#[inline]
+fn shown_folder(folder: &str) -> &str {
+    if folder.is_empty() {
+        "."
+    } else {
+        folder
+    }
+}
+
 /// Returns whether a folder of this name is left out.
 #[inline]
-fn is_left_out(name: &str) -> bool {
+pub fn is_left_out(name: &str) -> bool {
     name.starts_with('.') || name == "target"
 }
 
 impl<'a> Walk<'a> {
     /// Returns the files below a folder. An empty path is that of the current folder.
-    #[inline]
-    pub(crate) fn new(folder: &str, excluded_names: &'a [&'a str]) -> Result<Walk<'a>, AllocError> {
+    pub(crate) fn new(
+        rt: &crate::shim::host::HostRuntime,
+        folder: &'a str,
+        excluded_names: &'a [&'a str],
+    ) -> Result<Walk<'a>, AllocError> {
         let mut rest = Vec::new();
         rest.try_push(Entry {
             path: String::made_from(folder)?,
             is_folder: true,
         })?;
+        let real_folder = match fs::open(rt, shown_folder(folder)) {
+            Ok(file) => path_of(rt, &file).ok(),
+            Err(_) => None,
+        };
         Ok(Walk {
+            folder,
+            real_folder,
             rest,
             excluded_names,
         })
     }
 
-    /// Adds an entry of a folder, if it is to be read.
-    #[inline]
+    /// Returns whether an open file is the one that lies at a path that `next` returned: no folder
+    /// on the way and not the file itself was replaced by a link meanwhile. Where the system does
+    /// not say the path of an open file, this is known of the file itself alone.
+    pub fn holds(
+        &self,
+        rt: &crate::shim::host::HostRuntime,
+        path: &str,
+        file: &File,
+    ) -> io::Result<bool> {
+        let Some(real_folder) = &self.real_folder else {
+            return Ok(is_same(&fs::symlink_metadata(rt, path)?, &file.metadata()?));
+        };
+        let real_path = path_of(rt, file)?;
+        let found = real_path.as_str().strip_prefix(real_folder.as_str());
+        let wanted = path.strip_prefix(self.folder).unwrap_or(path);
+        Ok(found.unwrap_or("").trim_start_matches('/') == wanted.trim_start_matches('/'))
+    }
+
+    /// Adds an entry of a folder, if it is to be read. Says what a file with an old text is.
     fn add(
         &self,
         rt: &crate::shim::host::HostRuntime,
         folder: &str,
         entry: &DirEntry<crate::shim::host::HostRuntime>,
         entries: &mut Vec<Entry>,
+        totals: &mut Totals,
     ) -> io::Result<()> {
         let name = entry.file_name();
         if self.excluded_names.contains(&name) {
@@ -79,27 +120,35 @@ impl<'a> Walk<'a> {
         } else {
             kind.is_file() && name.ends_with(".rs")
         };
-        if is_read {
-            let path = join(folder, name)?;
-            entries.try_push(Entry { path, is_folder })?;
+        let old_name = if kind.is_file() {
+            name_before(name)
+        } else {
+            None
+        };
+        if !is_read && old_name.is_none() {
+            return Ok(());
+        }
+        let path = join(folder, name)?;
+        match old_name {
+            Some(old_name) => totals.show_old_text(rt, path.as_str(), old_name),
+            None => entries.try_push(Entry { path, is_folder })?,
         }
         Ok(())
     }
 
     /// Returns the entries of a folder, the first one last. The failure of an entry
     /// that cannot be read is added to the totals.
-    #[inline]
     fn entries(
         &self,
         rt: &crate::shim::host::HostRuntime,
         folder: &str,
         totals: &mut Totals,
     ) -> io::Result<Vec<Entry>> {
-        let path = if folder.is_empty() { "." } else { folder };
+        let path = shown_folder(folder);
         let mut entries = Vec::new();
         for entry in fs::read_dir(rt, path)? {
             let result = match entry {
-                Ok(entry) => self.add(rt, folder, &entry, &mut entries),
+                Ok(entry) => self.add(rt, folder, &entry, &mut entries, totals),
                 Err(error) => Err(error),
             };
             if let Err(error) = result {
@@ -113,7 +162,6 @@ impl<'a> Walk<'a> {
 
     /// Returns the path of the next file, or `None` if there is none. The failure of
     /// a folder that cannot be read is added to the totals.
-    #[inline]
     pub(crate) fn next(
         &mut self,
         rt: &crate::shim::host::HostRuntime,

@@ -12,7 +12,6 @@ use std::process::ExitCode;
 
 /// Returns the command-line arguments after the program's name. Returns `Err` if they are not
 /// available or an allocation fails.
-#[inline]
 fn words(rt: &crate::shim::host::HostRuntime) -> Result<Vec<String>, RunFault> {
     let mut words = match env::args(rt) {
         Ok(words) => words,
@@ -24,13 +23,11 @@ fn words(rt: &crate::shim::host::HostRuntime) -> Result<Vec<String>, RunFault> {
 
 /// Runs the program with its command-line arguments, standard input and standard output. Returns
 /// whether there is a line that is not of a piece, as `run` does.
-#[inline]
 fn answer(rt: &crate::shim::host::HostRuntime) -> Result<bool, RunFault> {
     let words = words(rt)?;
     run(&mut rt.stdin(), &mut rt.stdout(), words.as_slice())
 }
 
-#[inline]
 pub fn main(rt: crate::shim::host::HostRuntime) -> ExitCode {
     let verdict = verdict(&answer(&rt));
     if !verdict.message.is_empty() {

@@ -58,6 +58,7 @@ pub struct InlinedCall {
 }
 
 /// Why a call is left as it is.
+#[non_exhaustive]
 #[derive(Clone, Copy, Debug, PartialEq, Eq)]
 pub enum Obstacle {
     /// How many arguments it has is not known.

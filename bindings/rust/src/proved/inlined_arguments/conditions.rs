@@ -29,7 +29,6 @@ fn has_other(arguments: &[Argument<'_>]) -> bool {
 }
 
 /// Returns whether a comment would go with one of arguments.
-#[inline]
 fn have_comment(arguments: &[Argument<'_>]) -> bool {
     for argument in arguments {
         if is_variable(argument) && has_comment(argument) {
@@ -40,7 +39,6 @@ fn have_comment(arguments: &[Argument<'_>]) -> bool {
 }
 
 /// Returns the reason in its list of arguments why a call is left, or `None` if there is none.
-#[inline]
 fn list_condition(call: &Call<'_>, allows_mixed: bool) -> Option<Obstacle> {
     if !call.is_counted {
         return Some(Obstacle::Uncounted);
@@ -58,7 +56,6 @@ fn list_condition(call: &Call<'_>, allows_mixed: bool) -> Option<Obstacle> {
 }
 
 /// Returns whether a text is `{}`.
-#[inline]
 fn is_bare(text: &str) -> bool {
     let Some(('{', rest)) = split_first(text) else {
         return false;
@@ -70,7 +67,6 @@ fn is_bare(text: &str) -> bool {
 }
 
 /// Returns the reason in its macro and its string why a call is left, or `None` if there is none.
-#[inline]
 fn string_condition(call: &Call<'_>) -> Option<Obstacle> {
     if !call.string.captures_variables {
         return Some(Obstacle::CapturesNone);
@@ -86,7 +82,6 @@ fn string_condition(call: &Call<'_>) -> Option<Obstacle> {
 
 /// Returns the reason why a call is left that can be seen without reading its string, or `None` if
 /// there is none.
-#[inline]
 pub(crate) fn condition(call: &Call<'_>, allows_mixed: bool) -> Option<Obstacle> {
     match list_condition(call, allows_mixed) {
         Some(reason) => Some(reason),

@@ -25,7 +25,6 @@ enum Reference<'a> {
 }
 
 /// Returns how a position refers to an argument.
-#[inline]
 fn position_reference<'a>(position: &Position<'a>) -> Reference<'a> {
     match position {
         Position::ArgumentNamed(name) => Reference::Name(name),
@@ -35,7 +34,6 @@ fn position_reference<'a>(position: &Position<'a>) -> Reference<'a> {
 }
 
 /// Returns how a width or a precision refers to an argument.
-#[inline]
 fn count_reference<'a>(count: &Count<'a>) -> Reference<'a> {
     match count {
         Count::CountIsName(name, _) => Reference::Name(name),
@@ -46,7 +44,6 @@ fn count_reference<'a>(count: &Count<'a>) -> Reference<'a> {
 
 /// Returns the new text of a reference to this value, or `None` if it stays as it is: a name that
 /// is that of the variable already, an index that stays the same, or the next argument.
-#[inline]
 fn new_text(reference: Reference<'_>, value: Value<'_>) -> Result<Option<String>, AllocError> {
     match (value, reference) {
         (Value::Variable(name), Reference::Name(other)) => {
@@ -68,7 +65,6 @@ fn new_text(reference: Reference<'_>, value: Value<'_>) -> Result<Option<String>
 }
 
 /// Adds the edit that puts a text into a place of the literal, if there is one.
-#[inline]
 fn push_edit(
     edits: &mut Vec<Edit>,
     span: &Range<usize>,
@@ -84,7 +80,6 @@ fn push_edit(
 }
 
 /// Adds the edit of the position of a placeholder, if it does not stay as it is.
-#[inline]
 fn push_position<'a>(
     edits: &mut Vec<Edit>,
     values: &Values<'_, 'a>,
@@ -100,7 +95,6 @@ fn push_position<'a>(
 
 /// Returns the text of a width or a precision that is an argument, or `None` if it stays as it is.
 /// `opening` is what the text begins with: the dot of a precision.
-#[inline]
 fn count_text<'a>(
     values: &Values<'_, 'a>,
     count: &Count<'a>,
@@ -120,7 +114,6 @@ fn count_text<'a>(
 
 /// Adds the edit of a width or a precision at a place of the literal, if it does not stay as it is.
 /// `opening` is what its text begins with.
-#[inline]
 fn push_count<'a>(
     edits: &mut Vec<Edit>,
     values: &Values<'_, 'a>,
@@ -136,7 +129,6 @@ fn push_count<'a>(
 }
 
 /// Adds the edits of a piece.
-#[inline]
 fn push_piece<'a>(
     edits: &mut Vec<Edit>,
     values: &Values<'_, 'a>,
@@ -160,7 +152,6 @@ fn push_piece<'a>(
 
 /// Returns the edits of a literal whose text has these pieces: they put variables in the place of
 /// references to arguments that are these, and make the others those to the arguments that stay.
-#[inline]
 pub(crate) fn edits_of(call: CallMeaning<'_, '_>) -> Result<Vec<Edit>, AllocError> {
     let mut edits = Vec::new();
     for piece in call.pieces {

@@ -18,7 +18,6 @@ use crate::shim::alloc::AllocError;
 use crate::shim::prelude::*;
 
 /// Adds the newline that a macro appends, if it does.
-#[inline]
 fn put_newline(text: &mut String, appends_newline: bool) -> Result<(), AllocError> {
     if appends_newline {
         text.try_push('\n')?;
@@ -28,7 +27,6 @@ fn put_newline(text: &mut String, appends_newline: bool) -> Result<(), AllocErro
 }
 
 /// Returns whether two styles of literals are the same.
-#[inline]
 fn is_same_style(left: Option<usize>, right: Option<usize>) -> bool {
     match (left, right) {
         (None, None) => true,
@@ -39,7 +37,6 @@ fn is_same_style(left: Option<usize>, right: Option<usize>) -> bool {
 
 /// Returns whether nothing is wrong with a call with this string and these slots, and it means what
 /// the old one does. The given arguments are those of the slots.
-#[inline]
 fn means_same_with<'c>(
     old: CallMeaning<'_, '_>,
     string: FormatString<'c>,
@@ -59,7 +56,6 @@ fn means_same_with<'c>(
 
 /// Returns whether a call with this literal in place of its own, and without the arguments that are
 /// variables, means what the old one does.
-#[inline]
 fn keeps_meaning(
     call: Call<'_>,
     old: CallMeaning<'_, '_>,
@@ -87,7 +83,6 @@ fn keeps_meaning(
 /// Returns a call with its arguments that are variables in its format string, or why it is left as
 /// it is, if it is not for a reason that is seen without reading its string. The slots and the
 /// given arguments are those of the call.
-#[inline]
 fn inline_with<'c>(
     call: Call<'c>,
     slots: &[Slot<'c>],
@@ -124,7 +119,6 @@ fn inline_with<'c>(
 /// Returns `Err` if an allocation fails.
 ///
 /// The number of hashes, the length of the text in bytes, and 2 must together fit into a `usize`.
-#[inline]
 pub fn inline_arguments(
     call: Call<'_>,
     allows_mixed: bool,

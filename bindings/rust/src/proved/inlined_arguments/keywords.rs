@@ -4,7 +4,6 @@
 // That source has the contracts, and is proved. That this text means the same is only tested.
 
 /// Returns whether a word is a keyword that stands in expressions.
-#[inline]
 fn is_in_expressions(word: &str) -> bool {
     word == "as"
         || word == "async"
@@ -24,7 +23,6 @@ fn is_in_expressions(word: &str) -> bool {
 }
 
 /// Returns whether a word is a keyword that begins or joins statements and branches.
-#[inline]
 fn is_in_statements(word: &str) -> bool {
     word == "else"
         || word == "for"
@@ -39,7 +37,6 @@ fn is_in_statements(word: &str) -> bool {
 }
 
 /// Returns whether a word is a keyword that stands in items.
-#[inline]
 fn is_in_items(word: &str) -> bool {
     word == "const"
         || word == "enum"
@@ -57,7 +54,6 @@ fn is_in_items(word: &str) -> bool {
 }
 
 /// Returns whether a word is a keyword without a use.
-#[inline]
 fn is_reserved(word: &str) -> bool {
     word == "abstract"
         || word == "become"
@@ -76,7 +72,6 @@ fn is_reserved(word: &str) -> bool {
 }
 
 /// Returns whether a word is a keyword of some edition, except `self`.
-#[inline]
 pub(crate) fn is_keyword(word: &str) -> bool {
     is_in_expressions(word) || is_in_statements(word) || is_in_items(word) || is_reserved(word)
 }

@@ -11,7 +11,6 @@ use crate::proved::rustc_parse_format::laws::{
 use crate::proved::rustc_parse_format::{Argument, DebugHex, FormatSpec, Piece, Sign};
 
 /// Returns whether two values are the same.
-#[inline]
 fn is_same_value(left: Value<'_>, right: Value<'_>) -> bool {
     match (left, right) {
         (Value::Variable(left), Value::Variable(right)) => left == right,
@@ -23,7 +22,6 @@ fn is_same_value(left: Value<'_>, right: Value<'_>) -> bool {
 }
 
 /// Returns whether two values are there and the same.
-#[inline]
 fn are_same_values(left: Option<Value<'_>>, right: Option<Value<'_>>) -> bool {
     match (left, right) {
         (Some(left), Some(right)) => is_same_value(left, right),
@@ -32,7 +30,6 @@ fn are_same_values(left: Option<Value<'_>>, right: Option<Value<'_>>) -> bool {
 }
 
 /// Returns whether two widths or precisions are the same.
-#[inline]
 fn are_same_amounts(left: Amount<'_>, right: Amount<'_>) -> bool {
     match (left, right) {
         (Amount::Number(left), Amount::Number(right)) => left == right,
@@ -43,7 +40,6 @@ fn are_same_amounts(left: Amount<'_>, right: Amount<'_>) -> bool {
 }
 
 /// Returns whether two fill characters are the same.
-#[inline]
 fn are_same_fills(left: Option<char>, right: Option<char>) -> bool {
     match (left, right) {
         (None, None) => true,
@@ -53,7 +49,6 @@ fn are_same_fills(left: Option<char>, right: Option<char>) -> bool {
 }
 
 /// Returns whether two signs are the same.
-#[inline]
 fn are_same_signs(left: Option<Sign>, right: Option<Sign>) -> bool {
     match (left, right) {
         (None, None) => true,
@@ -63,7 +58,6 @@ fn are_same_signs(left: Option<Sign>, right: Option<Sign>) -> bool {
 }
 
 /// Returns whether two flags of the type `?` are the same.
-#[inline]
 fn are_same_hexes(left: Option<DebugHex>, right: Option<DebugHex>) -> bool {
     match (left, right) {
         (None, None) => true,
@@ -74,7 +68,6 @@ fn are_same_hexes(left: Option<DebugHex>, right: Option<DebugHex>) -> bool {
 
 /// Returns whether two specifications are the same but for their width, their precision and their
 /// places.
-#[inline]
 fn are_same_flags(left: &FormatSpec<'_>, right: &FormatSpec<'_>) -> bool {
     are_same_fills(left.fill, right.fill)
         && alignments_are_equal(&left.align, &right.align)
@@ -95,7 +88,6 @@ pub(crate) struct CallMeaning<'s, 'a> {
 }
 
 /// Returns whether two placeholders mean the same.
-#[inline]
 fn are_same_uses<'a, 'b>(
     left_values: &Values<'_, 'a>,
     left: &Argument<'a>,
@@ -115,7 +107,6 @@ fn are_same_uses<'a, 'b>(
 }
 
 /// Returns whether two pieces mean the same.
-#[inline]
 fn are_same_parts<'a, 'b>(
     left_values: &Values<'_, 'a>,
     left: &Piece<'a>,
@@ -132,7 +123,6 @@ fn are_same_parts<'a, 'b>(
 }
 
 /// Returns whether two calls mean the same.
-#[inline]
 pub(crate) fn means_same<'a, 'b>(left: CallMeaning<'_, 'a>, right: CallMeaning<'_, 'b>) -> bool {
     if left.pieces.len() != right.pieces.len() {
         return false;

@@ -27,7 +27,6 @@ fn are_warnings(faults: &[CallFault<'_>]) -> bool {
 
 /// Returns the pieces of the format string of a call, or `None` if something is wrong with the
 /// call.
-#[inline]
 pub(crate) fn read<'a>(
     string: FormatString<'a>,
     arguments: &'a [FormatArgument<'a>],

@@ -33,7 +33,6 @@ pub(crate) struct Slot<'a> {
 }
 
 /// Returns the value of an argument with these indices.
-#[inline]
 fn slot_value<'a>(argument: &Argument<'a>, index: usize, number: usize) -> Value<'a> {
     match variable(argument) {
         Some(name) => Value::Variable(name),
@@ -48,7 +47,6 @@ fn is_expression(value: Value<'_>) -> bool {
 }
 
 /// Returns the slots of arguments.
-#[inline]
 pub(crate) fn slots<'a>(arguments: &[Argument<'a>]) -> Result<Vec<Slot<'a>>, AllocError> {
     let mut slots = Vec::new();
     let mut number = 0;
@@ -66,7 +64,6 @@ pub(crate) fn slots<'a>(arguments: &[Argument<'a>]) -> Result<Vec<Slot<'a>>, All
 }
 
 /// Returns the slots that stay: those of arguments that are no variables.
-#[inline]
 pub(crate) fn expression_slots<'a>(slots: &[Slot<'a>]) -> Result<Vec<Slot<'a>>, AllocError> {
     let mut list = Vec::new();
     for slot in slots {
@@ -78,7 +75,6 @@ pub(crate) fn expression_slots<'a>(slots: &[Slot<'a>]) -> Result<Vec<Slot<'a>>, 
 }
 
 /// Returns slots as the arguments of a call.
-#[inline]
 pub(crate) fn givens<'a>(slots: &[Slot<'a>]) -> Result<Vec<FormatArgument<'a>>, AllocError> {
     let mut arguments = Vec::new();
     for slot in slots {

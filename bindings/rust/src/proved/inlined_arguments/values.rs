@@ -46,7 +46,6 @@ fn insert<'a>(
 }
 
 /// Returns the values of slots.
-#[inline]
 pub(crate) fn values_of<'s, 'a>(slots: &'s [Slot<'a>]) -> Result<Values<'s, 'a>, AllocError> {
     let mut named_values = BTreeMap::new();
     for slot in slots {
@@ -61,7 +60,6 @@ pub(crate) fn values_of<'s, 'a>(slots: &'s [Slot<'a>]) -> Result<Values<'s, 'a>,
 }
 
 /// Returns the value of an index, or `None` if no argument has it.
-#[inline]
 fn value_at<'a>(values: &Values<'_, 'a>, index: usize) -> Option<Value<'a>> {
     match values.slots.get(index) {
         Some(slot) => Some(slot.value),
@@ -70,7 +68,6 @@ fn value_at<'a>(values: &Values<'_, 'a>, index: usize) -> Option<Value<'a>> {
 }
 
 /// Returns the value of a name: that of the argument with this name, or else the variable.
-#[inline]
 fn value_named<'a>(values: &Values<'_, 'a>, name: &'a str) -> Value<'a> {
     match found_in(&values.named_values, name) {
         Some(value) => value,
@@ -79,7 +76,6 @@ fn value_named<'a>(values: &Values<'_, 'a>, name: &'a str) -> Value<'a> {
 }
 
 /// Returns the value of a position, or `None` if it is an index that no argument has.
-#[inline]
 pub(crate) fn position_value<'a>(
     values: &Values<'_, 'a>,
     position: &Position<'a>,
@@ -91,7 +87,6 @@ pub(crate) fn position_value<'a>(
 }
 
 /// Returns the amount that a width or a precision is.
-#[inline]
 pub(crate) fn amount_of<'a>(values: &Values<'_, 'a>, count: &Count<'a>) -> Amount<'a> {
     match count {
         Count::CountIs(n) => Amount::Number(*n),

@@ -12,7 +12,6 @@ use crate::shim::prelude::*;
 const FIRST_MARK: char = '\u{300}';
 
 /// Returns the first character and what is after it, or `None` if the text is empty.
-#[inline]
 pub(crate) fn split_first(text: &str) -> Option<(char, &str)> {
     let mut rest = text.chars();
     let c = rest.next()?;
@@ -20,7 +19,6 @@ pub(crate) fn split_first(text: &str) -> Option<(char, &str)> {
 }
 
 /// Returns whether a name is written in a format string as it is in other source.
-#[inline]
 fn is_plain(name: &str) -> bool {
     let mut rest = name;
     while let Some((c, tail)) = split_first(rest) {
@@ -43,7 +41,6 @@ fn named_in(name: &str) -> Option<&str> {
 }
 
 /// Returns the name of a raw identifier, or `None` if a word is none.
-#[inline]
 fn raw_name(word: &str) -> Option<&str> {
     let Some(('r', rest)) = split_first(word) else {
         return None;
@@ -56,7 +53,6 @@ fn raw_name(word: &str) -> Option<&str> {
 
 /// Returns the name of the variable that a word is, or `None` if it is none that can be in a format
 /// string.
-#[inline]
 fn variable_of(word: &str) -> Option<&str> {
     match raw_name(word) {
         Some(name) => named_in(name),
@@ -72,7 +68,6 @@ fn variable_of(word: &str) -> Option<&str> {
 
 /// Returns the name of the variable that an argument is, or `None` if it is none that can be in a
 /// format string.
-#[inline]
 pub(crate) fn variable<'a>(argument: &Argument<'a>) -> Option<&'a str> {
     match argument.word {
         None => None,
@@ -104,7 +99,6 @@ pub(crate) fn has_comment(argument: &Argument<'_>) -> bool {
 }
 
 /// Returns the indices of the arguments that are variables.
-#[inline]
 pub(crate) fn variable_indices(arguments: &[Argument<'_>]) -> Result<Vec<usize>, AllocError> {
     let mut removed_indices = Vec::new();
     for (index, argument) in arguments.iter().enumerate() {

@@ -23,7 +23,6 @@ fn mode_word<'a>(matches: &ArgMatches<'a>) -> &'a str {
 }
 
 /// Returns the mode.
-#[inline]
 fn mode_of(matches: &ArgMatches<'_>) -> ParseMode {
     match mode_word(matches) {
         "asm" => ParseMode::InlineAsm,
@@ -34,7 +33,6 @@ fn mode_of(matches: &ArgMatches<'_>) -> ParseMode {
 }
 
 /// Returns when colours are written.
-#[inline]
 fn when_of(matches: &ArgMatches<'_>) -> ColourChoice {
     match matches.get_str("color").unwrap_or("auto") {
         "always" => ColourChoice::Always,
@@ -45,7 +43,6 @@ fn when_of(matches: &ArgMatches<'_>) -> ColourChoice {
 
 /// Returns whether each stream to which tokens or drawings are written is a terminal. Drawings go
 /// to standard error where the output is tokens or a literal.
-#[inline]
 fn are_terminals(rt: &crate::shim::host::HostRuntime, matches: &ArgMatches<'_>) -> bool {
     match output_kind_of(matches) {
         OutputKind::Fix => rt.stderr().is_terminal(),
@@ -55,7 +52,6 @@ fn are_terminals(rt: &crate::shim::host::HostRuntime, matches: &ArgMatches<'_>) 
 }
 
 /// Returns whether tokens and drawings are in colours.
-#[inline]
 pub fn has_colours(rt: &crate::shim::host::HostRuntime, matches: &ArgMatches<'_>) -> bool {
     let no_color = env::var(rt, "NO_COLOR").ok();
     let term = env::var(rt, "TERM").ok();
@@ -69,7 +65,6 @@ pub fn has_colours(rt: &crate::shim::host::HostRuntime, matches: &ArgMatches<'_>
 
 /// Returns how many columns the terminal that standard output is has, as the environment variable
 /// `COLUMNS` says, or `None` if it is no terminal or the variable is no positive number.
-#[inline]
 fn terminal_width(rt: &crate::shim::host::HostRuntime) -> Option<usize> {
     if !rt.stdout().is_terminal() {
         return None;
@@ -83,7 +78,6 @@ fn terminal_width(rt: &crate::shim::host::HostRuntime) -> Option<usize> {
 
 /// Returns how many columns a row of a drawing has, or `None` if the word for it is no number.
 /// Without a word it has as many as the terminal, or [`WIDTH`].
-#[inline]
 pub fn width_of(rt: &crate::shim::host::HostRuntime, matches: &ArgMatches<'_>) -> Option<usize> {
     match matches.get_str("width") {
         None => Some(terminal_width(rt).unwrap_or(WIDTH)),
@@ -92,11 +86,16 @@ pub fn width_of(rt: &crate::shim::host::HostRuntime, matches: &ArgMatches<'_>) -
 }
 
 /// Returns the form of messages, drawn in colours or not.
-#[inline]
 pub fn form_of(matches: &ArgMatches<'_>, width: usize, colours: bool) -> Form {
     match matches.get_str("message-format").unwrap_or("human") {
         "short" => Form::Short,
-        "json" => Form::Json,
+        "json" => Form::Json {
+            width: if matches.get_str("width").is_some() {
+                width
+            } else {
+                WIDTH
+            },
+        },
         "github" => Form::Github,
         "sarif" => Form::Sarif,
         _ => Form::Human { colours, width },
@@ -104,7 +103,6 @@ pub fn form_of(matches: &ArgMatches<'_>, width: usize, colours: bool) -> Form {
 }
 
 /// Returns what is done with files that change, or `None` if none is to be changed.
-#[inline]
 pub fn change_of(matches: &ArgMatches<'_>) -> Option<Change> {
     if !matches.get_flag("fix") && !matches.get_flag("inline") {
         None
@@ -118,7 +116,6 @@ pub fn change_of(matches: &ArgMatches<'_>) -> Option<Change> {
 }
 
 /// Returns the file of one string, or `None` for standard input.
-#[inline]
 pub fn file_of<'a>(matches: &ArgMatches<'a>) -> Option<&'a str> {
     match matches.get_str("path") {
         Some("-") => None,
@@ -127,7 +124,6 @@ pub fn file_of<'a>(matches: &ArgMatches<'a>) -> Option<&'a str> {
 }
 
 /// Returns which answer is shown for one string.
-#[inline]
 fn output_kind_of(matches: &ArgMatches<'_>) -> OutputKind {
     if matches.get_flag("fix") {
         OutputKind::Fix
@@ -141,7 +137,6 @@ fn output_kind_of(matches: &ArgMatches<'_>) -> OutputKind {
 }
 
 /// Returns the task for one string, where the input has this path.
-#[inline]
 pub fn task_of<'a>(
     matches: &ArgMatches<'_>,
     path: &'a str,
@@ -159,7 +154,6 @@ pub fn task_of<'a>(
 }
 
 /// Returns the arguments with which `formatread` writes the listing.
-#[inline]
 pub fn list_words(matches: &ArgMatches<'_>) -> Result<Vec<String>, AllocError> {
     let mut words = Vec::new();
     words.try_push(String::made_from(mode_word(matches))?)?;
@@ -174,7 +168,6 @@ pub fn list_words(matches: &ArgMatches<'_>) -> Result<Vec<String>, AllocError> {
 }
 
 /// Returns whether a text can be the name of a macro: whether it is an identifier.
-#[inline]
 fn is_name(text: &str) -> bool {
     match first_token(text) {
         Some(token) => matches!(token.kind, Kind::Ident) && token.span.end == text.len(),
@@ -183,7 +176,6 @@ fn is_name(text: &str) -> bool {
 }
 
 /// Returns the macro that a word `NAME:INDEX` means, or `None` if it means none.
-#[inline]
 fn row_of(word: &str) -> Option<Row<'_>> {
     let (name, index) = word.split_once(':')?;
     let index = index.parse::<usize>().ok()?;
@@ -195,7 +187,6 @@ fn row_of(word: &str) -> Option<Row<'_>> {
 
 /// Returns the macros that are known: those of the standard library and of some crates, and those
 /// that are given. The error is the first word that means none, or `None` if an allocation fails.
-#[inline]
 pub fn table_of<'a>(words: &[&'a str]) -> Result<Table<'a>, Option<&'a str>> {
     let Ok(mut table) = Table::standard() else {
         return Err(None);

@@ -40,7 +40,6 @@ impl Failure {
     }
 
     /// Returns whether the system's error is of this kind.
-    #[inline]
     pub fn has_kind(&self, kind: io::ErrorKind) -> bool {
         match &self.error {
             Some(error) => error.kind() == kind,

@@ -3,11 +3,12 @@
 // Extracted from crates/lint_program/src/literal.rt by tools/extract: not to be edited.
 // That source has the contracts, and is proved. That this text means the same is only tested.
 
-use crate::proved::drawn_lines::{put_glyphs, WIDTH};
+use crate::proved::drawn_lines::WIDTH;
 use crate::proved::format_lint::run::run;
 use crate::proved::lint_program::arguments::{file_of, has_colours, list_words, task_of, width_of};
 use crate::proved::lint_program::failure::Failure;
 use crate::proved::lint_program::recorder::Recorder;
+use crate::proved::lint_program::terminal::shown_bytes;
 use crate::proved::lint_words::{put_failure, put_not_literal, system_words};
 use crate::proved::listing_json::{list, Listing};
 use crate::proved::literal_faults::{file_fault, snippet_of};
@@ -21,7 +22,6 @@ use crate::shim::prelude::*;
 use std::io::{ErrorKind, Read, Write};
 
 /// Reads a stream to its end.
-#[inline]
 fn read<R: Read>(rt: &crate::shim::host::HostRuntime, stream: R) -> Result<Vec<u8>, Failure> {
     let mut reader = Recorder::new(stream);
     match read_input(&mut reader) {
@@ -34,7 +34,6 @@ fn read<R: Read>(rt: &crate::shim::host::HostRuntime, stream: R) -> Result<Vec<u
 }
 
 /// Reads a file, or standard input.
-#[inline]
 fn read_file(rt: &crate::shim::host::HostRuntime, file: Option<&str>) -> Result<Vec<u8>, Failure> {
     let Some(path) = file else {
         print_hint(rt);
@@ -48,7 +47,6 @@ fn read_file(rt: &crate::shim::host::HostRuntime, file: Option<&str>) -> Result<
 
 /// Returns the bytes of a file with each CRLF as the line feed that the compiler reads it as. A
 /// text that is no literal stays as it is.
-#[inline]
 fn without_returns(matches: &ArgMatches<'_>, file: Vec<u8>) -> Result<Vec<u8>, AllocError> {
     if matches.get_flag("text") || !file.contains(&b'\r') {
         return Ok(file);
@@ -63,7 +61,6 @@ fn without_returns(matches: &ArgMatches<'_>, file: Vec<u8>) -> Result<Vec<u8>, A
 }
 
 /// Writes to standard error that standard input is read, if it is a terminal.
-#[inline]
 pub fn print_hint(rt: &crate::shim::host::HostRuntime) {
     if rt.stdin().is_terminal() {
         let _ = rt.eprintln("formatlint: reads what is typed here, up to Ctrl-D; --help says more");
@@ -71,7 +68,6 @@ pub fn print_hint(rt: &crate::shim::host::HostRuntime) {
 }
 
 /// Reads the input: a file, or standard input.
-#[inline]
 fn input(
     rt: &crate::shim::host::HostRuntime,
     matches: &ArgMatches<'_>,
@@ -82,7 +78,6 @@ fn input(
 }
 
 /// Returns the bytes of an input that are listed: all of a text, or the literal in a file.
-#[inline]
 fn listing_input<'a>(matches: &ArgMatches<'_>, input: &'a [u8]) -> &'a [u8] {
     if matches.get_flag("text") {
         return input;
@@ -94,7 +89,6 @@ fn listing_input<'a>(matches: &ArgMatches<'_>, input: &'a [u8]) -> &'a [u8] {
 }
 
 /// Returns the listing of an input, in the form that the arguments name.
-#[inline]
 fn listing_of(matches: &ArgMatches<'_>, input: &[u8]) -> Result<Listing, RunFault> {
     let words = list_words(matches)?;
     let bytes = listing_input(matches, input);
@@ -110,9 +104,17 @@ fn listing_of(matches: &ArgMatches<'_>, input: &[u8]) -> Result<Listing, RunFaul
     })
 }
 
-/// Writes the listing of an input. On a terminal its characters are those of a drawing, so that the
-/// terminal obeys none. Returns 1 if a line is not of a piece.
-#[inline]
+/// Writes bytes to standard output, on a terminal as drawings have them.
+fn write_shown<W: Write>(
+    rt: &crate::shim::host::HostRuntime,
+    writer: &mut W,
+    bytes: &[u8],
+) -> Result<(), RunFault> {
+    let mut drawing = String::new();
+    write_whole(writer, shown_bytes(rt, bytes, &mut drawing)?)
+}
+
+/// Writes the listing of an input. Returns 1 if a line is not of a piece.
 fn answer_listing<W: Write>(
     rt: &crate::shim::host::HostRuntime,
     writer: &mut W,
@@ -120,20 +122,34 @@ fn answer_listing<W: Write>(
     input: &[u8],
 ) -> Result<usize, RunFault> {
     let listing = listing_of(matches, input)?;
-    match core::str::from_utf8(listing.bytes.as_slice()) {
-        Ok(text) if rt.stdout().is_terminal() => {
-            let mut drawing = String::new();
-            put_glyphs(&mut drawing, text, 0)?;
-            write_whole(writer, drawing.as_bytes())?;
-        }
-        _ => write_whole(writer, listing.bytes.as_slice())?,
-    }
+    write_shown(rt, writer, listing.bytes.as_slice())?;
     Ok(usize::from(listing.has_ends))
+}
+
+/// Writes the answer for an input that is not listed. Returns how many mistakes are left.
+fn answer_task<W: Write, E: Write>(
+    rt: &crate::shim::host::HostRuntime,
+    writer: &mut W,
+    error_writer: &mut E,
+    matches: &ArgMatches<'_>,
+    path: &str,
+    input: &[u8],
+) -> Result<usize, RunFault> {
+    let width = width_of(rt, matches).unwrap_or(WIDTH);
+    let task = task_of(matches, path, width, has_colours(rt, matches));
+    let mut reader = input;
+    if !matches.get_flag("fix") || !rt.stdout().is_terminal() {
+        return run(&mut reader, writer, error_writer, task);
+    }
+    // (only of a literal has the output characters as the input has them)
+    let mut literal = Vec::new();
+    let count = run(&mut reader, &mut literal, error_writer, task)?;
+    write_shown(rt, writer, literal.as_slice())?;
+    Ok(count)
 }
 
 /// Writes the answer for an input. Returns how many mistakes are left, and of a list 1 if a line is
 /// not of a piece.
-#[inline]
 fn answer(
     rt: &crate::shim::host::HostRuntime,
     matches: &ArgMatches<'_>,
@@ -145,10 +161,7 @@ fn answer(
     let result = if matches.get_flag("list") {
         answer_listing(rt, &mut writer, matches, input)
     } else {
-        let width = width_of(rt, matches).unwrap_or(WIDTH);
-        let task = task_of(matches, path, width, has_colours(rt, matches));
-        let mut reader = input;
-        run(&mut reader, &mut writer, &mut error_writer, task)
+        answer_task(rt, &mut writer, &mut error_writer, matches, path, input)
     };
     match result {
         Ok(count) => Ok(count),
@@ -160,7 +173,6 @@ fn answer(
 }
 
 /// Appends the lines with the reason why there is no answer.
-#[inline]
 fn put_reason(
     out: &mut String,
     path: &str,
@@ -189,7 +201,6 @@ const GONE: u8 = 141;
 const NO_PATH: &str = "  = help: without a PATH the string is read from standard input";
 
 /// Writes to standard error why there is no answer, and returns the exit status.
-#[inline]
 pub fn print_failure(
     rt: &crate::shim::host::HostRuntime,
     path: &str,
@@ -213,7 +224,6 @@ pub fn print_failure(
 
 /// Writes to standard error how many mistakes there are besides the first, where only that is
 /// drawn.
-#[inline]
 fn print_other_count(rt: &crate::shim::host::HostRuntime, matches: &ArgMatches<'_>, count: usize) {
     if count > 1 && !matches.get_flag("all") {
         let other_count = count - 1;
@@ -224,7 +234,6 @@ fn print_other_count(rt: &crate::shim::host::HostRuntime, matches: &ArgMatches<'
 
 /// Reads one string, and writes the answer. Returns the exit status, or `None` if the value of
 /// `--args` is no list of arguments.
-#[inline]
 pub fn literal_status(rt: &crate::shim::host::HostRuntime, matches: &ArgMatches<'_>) -> Option<u8> {
     let file = file_of(matches);
     let path = match file {

@@ -241,7 +241,6 @@ static OPTIONS: [Row; 24] = [
 ];
 
 /// Returns an option.
-#[inline]
 fn option<'a>(row: &'a Row) -> Result<Arg<'a>, AllocError> {
     let mut arg = Arg::new(row.name).long(row.name).help(row.help);
     arg = match row.value {
@@ -265,7 +264,6 @@ fn option<'a>(row: &'a Row) -> Result<Arg<'a>, AllocError> {
 }
 
 /// Adds all options to a command.
-#[inline]
 fn with_options<'a>(command: Command<'a>) -> Result<Command<'a>, AllocError> {
     let mut all = command;
     for row in &OPTIONS {
@@ -275,7 +273,6 @@ fn with_options<'a>(command: Command<'a>) -> Result<Command<'a>, AllocError> {
 }
 
 /// Returns the options and the arguments of the program.
-#[inline]
 pub fn command<'a>() -> Result<Command<'a>, AllocError> {
     let base = Command::new("formatlint")
         .bin_name("formatlint")?
@@ -296,7 +293,6 @@ pub fn command<'a>() -> Result<Command<'a>, AllocError> {
 }
 
 /// Returns whether an option has this name.
-#[inline]
 pub fn is_option(name: &str) -> bool {
     for row in &OPTIONS {
         if row.name == name {

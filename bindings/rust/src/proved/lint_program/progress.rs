@@ -20,7 +20,6 @@ pub struct Progress {
 impl Progress {
     /// Returns the progress of a run that begins now, without a line if standard error is no
     /// terminal.
-    #[inline]
     pub fn new(rt: &crate::shim::host::HostRuntime) -> Progress {
         let start = if rt.stderr().is_terminal() {
             Instant::now(rt).ok()
@@ -34,7 +33,6 @@ impl Progress {
     }
 
     /// Returns whether the line is to be written.
-    #[inline]
     fn is_due(&self, rt: &crate::shim::host::HostRuntime) -> bool {
         match &self.start {
             Some(start) => match start.elapsed(rt) {
@@ -47,7 +45,6 @@ impl Progress {
 
     /// Writes how many files were read, if half a second has passed since the line was written or
     /// the run began.
-    #[inline]
     pub fn show(&mut self, rt: &crate::shim::host::HostRuntime, files: usize) {
         if self.is_due(rt) {
             let _ = crate::shim::eprint_in!(rt; "\rformatlint: files read: {files}");
@@ -57,7 +54,6 @@ impl Progress {
     }
 
     /// Removes the line from the terminal, before other text is written.
-    #[inline]
     pub fn clear(&mut self, rt: &crate::shim::host::HostRuntime) {
         if self.is_shown {
             let _ = rt.eprint("\r\x1b[K");

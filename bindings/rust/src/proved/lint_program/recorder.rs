@@ -1,9 +1,9 @@
-//! A stream that keeps the error of a call that fails.
+//! A stream that keeps the error of a call that fails, and goes on after one that is interrupted.
 
 // Extracted from crates/lint_program/src/recorder.rt by tools/extract: not to be edited.
 // That source has the contracts, and is proved. That this text means the same is only tested.
 
-use std::io::{Error, Read, Result, Write};
+use std::io::{Error, ErrorKind, Read, Result, Write};
 
 /// A stream with the last error that it returned.
 pub struct Recorder<S> {
@@ -24,7 +24,6 @@ impl<S> Recorder<S> {
     }
 
     /// Keeps an error, and returns one of its kind.
-    #[inline]
     fn keep(&mut self, error: Error) -> Error {
         let kind = error.kind();
         self.error = Some(error);
@@ -33,22 +32,28 @@ impl<S> Recorder<S> {
 }
 
 impl<R: Read> Read for Recorder<R> {
-    #[inline]
     fn read(&mut self, buf: &mut [u8]) -> Result<usize> {
-        match self.stream.read(buf) {
-            Ok(count) => Ok(count),
-            Err(error) => Err(self.keep(error)),
+        for _ in 0..u64::MAX {
+            match self.stream.read(buf) {
+                Ok(count) => return Ok(count),
+                Err(error) if error.kind() == ErrorKind::Interrupted => {}
+                Err(error) => return Err(self.keep(error)),
+            }
         }
+        Err(Error::from(ErrorKind::Interrupted))
     }
 }
 
 impl<W: Write> Write for Recorder<W> {
-    #[inline]
     fn write(&mut self, buf: &[u8]) -> Result<usize> {
-        match self.stream.write(buf) {
-            Ok(count) => Ok(count),
-            Err(error) => Err(self.keep(error)),
+        for _ in 0..u64::MAX {
+            match self.stream.write(buf) {
+                Ok(count) => return Ok(count),
+                Err(error) if error.kind() == ErrorKind::Interrupted => {}
+                Err(error) => return Err(self.keep(error)),
+            }
         }
+        Err(Error::from(ErrorKind::Interrupted))
     }
 
     #[inline]

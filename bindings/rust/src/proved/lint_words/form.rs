@@ -16,7 +16,10 @@ pub enum Form {
     /// A line for an editor.
     Short,
     /// A line of JSON.
-    Json,
+    Json {
+        /// How many columns a row of the drawing in it has.
+        width: usize,
+    },
     /// A workflow command of GitHub.
     Github,
     /// A log of SARIF.

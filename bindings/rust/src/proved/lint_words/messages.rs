@@ -3,17 +3,16 @@
 // Extracted from crates/lint_words/src/messages.rt by tools/extract: not to be edited.
 // That source has the contracts, and is proved. That this text means the same is only tested.
 
-use crate::proved::drawn_lines::put_glyphs;
 use crate::proved::literal_faults::LiteralFault;
 use crate::proved::piece_listing::verdict::RunFault;
 use crate::proved::rust_trees::{place_at, Place};
+use crate::proved::shown_text::{put_shown, Kind};
 use crate::shim::alloc::AllocError;
 use crate::shim::itoa::Buffer;
 use crate::shim::prelude::*;
 
 /// Returns the words of the system in the text of an error of reading or writing, without the
 /// number that std adds.
-#[inline]
 pub fn system_words(text: &str) -> &str {
     match text.split_once(" (os error ") {
         Some((words, _)) => words,
@@ -22,17 +21,15 @@ pub fn system_words(text: &str) -> &str {
 }
 
 /// Appends the start of a line: the name of the program and the path.
-#[inline]
 fn put_opening(out: &mut String, path: &str) -> Result<(), AllocError> {
     out.try_push_str("formatlint: ")?;
-    put_glyphs(out, path, 0)?;
+    put_shown(out, Kind::Line, path)?;
     out.try_push_str(":")?;
     Ok(())
 }
 
 /// Returns the reason why there is no answer. For a read or a write that failed, `words` has the
 /// words of the system, if it has any.
-#[inline]
 fn reason<'a>(fault: RunFault, words: &'a str) -> &'a str {
     match fault {
         RunFault::Read if words.is_empty() => "reading failed",
@@ -48,7 +45,6 @@ fn reason<'a>(fault: RunFault, words: &'a str) -> &'a str {
 
 /// Appends the line that says why there is no answer for the input with this path. For a read or a
 /// write that failed `words` has the words of the system, if it has any.
-#[inline]
 pub fn put_failure(
     out: &mut String,
     path: &str,
@@ -57,13 +53,12 @@ pub fn put_failure(
 ) -> Result<(), AllocError> {
     put_opening(out, path)?;
     out.try_push_str(" ")?;
-    out.try_push_str(reason(fault, words))?;
+    put_shown(out, Kind::Line, reason(fault, words))?;
     out.try_push_str("\n")?;
     Ok(())
 }
 
 /// Appends a number in decimal digits.
-#[inline]
 fn put_number(out: &mut String, number: usize) -> Result<(), AllocError> {
     let mut buffer = Buffer::new();
     out.try_push_str(buffer.format(number))?;
@@ -71,7 +66,6 @@ fn put_number(out: &mut String, number: usize) -> Result<(), AllocError> {
 }
 
 /// Appends a place: the line, a colon and the column.
-#[inline]
 fn put_place(out: &mut String, place: Place) -> Result<(), AllocError> {
     put_number(out, place.line)?;
     out.try_push_str(":")?;
@@ -81,7 +75,6 @@ fn put_place(out: &mut String, place: Place) -> Result<(), AllocError> {
 
 /// Appends the lines that say why the file with this path holds no string literal, at which place,
 /// and which option reads it as a text.
-#[inline]
 pub fn put_not_literal(
     out: &mut String,
     path: &str,
@@ -97,7 +90,6 @@ pub fn put_not_literal(
 }
 
 /// Appends the line that says why the file with this path is not read from a place on.
-#[inline]
 pub fn put_place_failure(
     out: &mut String,
     path: &str,
@@ -107,7 +99,7 @@ pub fn put_place_failure(
     put_opening(out, path)?;
     put_place(out, place)?;
     out.try_push_str(": ")?;
-    out.try_push_str(words)?;
+    put_shown(out, Kind::Line, words)?;
     out.try_push_str("\n")?;
     Ok(())
 }

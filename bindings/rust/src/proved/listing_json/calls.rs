@@ -20,7 +20,6 @@ pub fn begin_line(out: &mut Vec<u8>) -> Writer {
 }
 
 /// Ends the line of a writer, and moves it back into the text.
-#[inline]
 pub fn end_line(out: &mut Vec<u8>, writer: Writer) -> Result<(), AllocError> {
     *out = writer.into_inner();
     out.try_push(b'\n')?;
@@ -28,7 +27,6 @@ pub fn end_line(out: &mut Vec<u8>, writer: Writer) -> Result<(), AllocError> {
 }
 
 /// Appends the line of a piece. A placeholder is in `argument`.
-#[inline]
 fn put_piece_line(
     out: &mut Vec<u8>,
     piece: &PieceKind<'_>,
@@ -41,7 +39,6 @@ fn put_piece_line(
 }
 
 /// Appends the line of a piece, if there is one.
-#[inline]
 fn put_maybe_piece(
     out: &mut Vec<u8>,
     piece: &Option<PieceKind<'_>>,
@@ -54,7 +51,6 @@ fn put_maybe_piece(
 }
 
 /// Appends the line of a fault.
-#[inline]
 fn put_fault_line(out: &mut Vec<u8>, fault: &Fault<'_>) -> Result<(), AllocError> {
     let mut writer = begin_line(out);
     put_fault(&mut writer, fault)?;
@@ -63,7 +59,6 @@ fn put_fault_line(out: &mut Vec<u8>, fault: &Fault<'_>) -> Result<(), AllocError
 }
 
 /// Appends a line for each fault.
-#[inline]
 fn put_faults(out: &mut Vec<u8>, faults: &[Fault<'_>]) -> Result<(), AllocError> {
     for fault in faults {
         put_fault_line(out, fault)?;
@@ -73,7 +68,6 @@ fn put_faults(out: &mut Vec<u8>, faults: &[Fault<'_>]) -> Result<(), AllocError>
 
 /// Makes the next call of a parser, and appends the lines of its piece and of its faults, which it
 /// also leaves in `faults`. Returns whether there is a piece.
-#[inline]
 fn put_call<'a>(
     out: &mut Vec<u8>,
     parser: &mut Parser<'a>,
@@ -88,7 +82,6 @@ fn put_call<'a>(
 
 /// Appends the lines of the calls of a parser up to the first that returns no piece. Returns
 /// whether a fault is found.
-#[inline]
 pub fn put_calls<'a>(out: &mut Vec<u8>, parser: &mut Parser<'a>) -> Result<bool, AllocError> {
     let mut argument = Argument::default();
     let mut faults = Vec::new();

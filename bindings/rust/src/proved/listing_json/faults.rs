@@ -11,7 +11,6 @@ use crate::shim::prelude::*;
 use core::ops::Range;
 
 /// Appends a note, or null if there is none.
-#[inline]
 fn put_note(writer: &mut Writer, note: &Option<String>) -> Result<(), AllocError> {
     match note {
         Some(text) => writer.string(text.as_str()),
@@ -20,7 +19,6 @@ fn put_note(writer: &mut Writer, note: &Option<String>) -> Result<(), AllocError
 }
 
 /// Appends a label and its span.
-#[inline]
 fn put_label(writer: &mut Writer, label: &str, span: &Range<usize>) -> Result<(), AllocError> {
     writer.begin_object()?;
     put_string(writer, "label", label)?;
@@ -30,7 +28,6 @@ fn put_label(writer: &mut Writer, label: &str, span: &Range<usize>) -> Result<()
 }
 
 /// Appends a second label with its span, or null if there is none.
-#[inline]
 fn put_secondary(
     writer: &mut Writer,
     second: &Option<(String, Range<usize>)>,
@@ -42,7 +39,6 @@ fn put_secondary(
 }
 
 /// Appends a suggestion of this kind for a span.
-#[inline]
 fn put_mend(writer: &mut Writer, kind: &str, span: &Range<usize>) -> Result<(), AllocError> {
     begin_kind(writer, kind)?;
     put_span_of(writer, "span", span)?;
@@ -51,7 +47,6 @@ fn put_mend(writer: &mut Writer, kind: &str, span: &Range<usize>) -> Result<(), 
 }
 
 /// Appends a suggestion of this kind without a span.
-#[inline]
 fn put_bare_mend(writer: &mut Writer, kind: &str) -> Result<(), AllocError> {
     begin_kind(writer, kind)?;
     writer.end_object()?;
@@ -59,7 +54,6 @@ fn put_bare_mend(writer: &mut Writer, kind: &str) -> Result<(), AllocError> {
 }
 
 /// Appends the suggestion to replace a span by a text.
-#[inline]
 fn put_reorder(writer: &mut Writer, span: &Range<usize>, text: &str) -> Result<(), AllocError> {
     begin_kind(writer, "reorder-format-parameter")?;
     put_span_of(writer, "span", span)?;
@@ -69,7 +63,6 @@ fn put_reorder(writer: &mut Writer, span: &Range<usize>, text: &str) -> Result<(
 }
 
 /// Appends a suggestion, or null if there is none.
-#[inline]
 fn put_suggestion(writer: &mut Writer, suggestion: &Suggestion) -> Result<(), AllocError> {
     match suggestion {
         Suggestion::None => writer.null(),
@@ -84,7 +77,6 @@ fn put_suggestion(writer: &mut Writer, suggestion: &Suggestion) -> Result<(), Al
 }
 
 /// Appends the error of a fault with this id.
-#[inline]
 fn put_error(writer: &mut Writer, id: &str, error: &ParseError) -> Result<(), AllocError> {
     begin_kind(writer, "fault")?;
     put_string(writer, "id", id)?;
@@ -102,7 +94,6 @@ fn put_error(writer: &mut Writer, id: &str, error: &ParseError) -> Result<(), Al
 }
 
 /// Appends a fault.
-#[inline]
 pub fn put_fault(writer: &mut Writer, fault: &Fault<'_>) -> Result<(), AllocError> {
     let error = fault.error()?;
     put_error(writer, fault.id(), &error)

@@ -15,7 +15,6 @@ pub fn put_text(writer: &mut Writer, text: &str) -> Result<(), AllocError> {
 }
 
 /// Appends a key and a string.
-#[inline]
 pub fn put_string(writer: &mut Writer, name: &str, text: &str) -> Result<(), AllocError> {
     writer.key(name)?;
     writer.string(text)?;
@@ -23,7 +22,6 @@ pub fn put_string(writer: &mut Writer, name: &str, text: &str) -> Result<(), All
 }
 
 /// Appends a key and a number.
-#[inline]
 pub fn put_number(writer: &mut Writer, name: &str, value: usize) -> Result<(), AllocError> {
     writer.key(name)?;
     writer.u64(value as u64)?;
@@ -31,7 +29,6 @@ pub fn put_number(writer: &mut Writer, name: &str, value: usize) -> Result<(), A
 }
 
 /// Appends a span.
-#[inline]
 pub fn put_span(writer: &mut Writer, span: &Range<usize>) -> Result<(), AllocError> {
     writer.begin_object()?;
     put_number(writer, "start", span.start)?;
@@ -41,7 +38,6 @@ pub fn put_span(writer: &mut Writer, span: &Range<usize>) -> Result<(), AllocErr
 }
 
 /// Appends a key and a span.
-#[inline]
 pub fn put_span_of(writer: &mut Writer, name: &str, span: &Range<usize>) -> Result<(), AllocError> {
     writer.key(name)?;
     put_span(writer, span)?;
@@ -49,7 +45,6 @@ pub fn put_span_of(writer: &mut Writer, name: &str, span: &Range<usize>) -> Resu
 }
 
 /// Appends a key and a span, or null if there is none.
-#[inline]
 pub fn put_maybe_span(
     writer: &mut Writer,
     name: &str,
@@ -64,7 +59,6 @@ pub fn put_maybe_span(
 }
 
 /// Appends the start of an object of this kind.
-#[inline]
 pub fn begin_kind(writer: &mut Writer, kind: &str) -> Result<(), AllocError> {
     writer.begin_object()?;
     put_string(writer, "kind", kind)?;
@@ -72,7 +66,6 @@ pub fn begin_kind(writer: &mut Writer, kind: &str) -> Result<(), AllocError> {
 }
 
 /// Appends an object of this kind with the index of an argument.
-#[inline]
 pub fn put_index(writer: &mut Writer, kind: &str, index: usize) -> Result<(), AllocError> {
     begin_kind(writer, kind)?;
     put_number(writer, "index", index)?;
@@ -81,7 +74,6 @@ pub fn put_index(writer: &mut Writer, kind: &str, index: usize) -> Result<(), Al
 }
 
 /// Appends an object of this kind with the name of an argument.
-#[inline]
 pub fn put_name(writer: &mut Writer, kind: &str, name: &str) -> Result<(), AllocError> {
     begin_kind(writer, kind)?;
     writer.key("name")?;

@@ -25,7 +25,6 @@ pub struct Listing {
 }
 
 /// Returns a copy of a literal, if there is one.
-#[inline]
 fn snippet_of(literal: Option<&str>) -> Result<Option<String>, AllocError> {
     match literal {
         Some(text) => Ok(Some(String::made_from(text)?)),
@@ -34,7 +33,6 @@ fn snippet_of(literal: Option<&str>) -> Result<Option<String>, AllocError> {
 }
 
 /// Returns the arguments that the placeholders of a text use, if the task has a list of arguments.
-#[inline]
 fn uses_in<'a>(
     text: &'a str,
     style: Option<usize>,
@@ -49,7 +47,6 @@ fn uses_in<'a>(
 }
 
 /// Returns the report on the arguments that are missing or unused in a text.
-#[inline]
 fn report_of<'a>(
     text: &'a str,
     style: Option<usize>,
@@ -61,7 +58,6 @@ fn report_of<'a>(
 }
 
 /// Returns the lines of the calls of a parser and of a report.
-#[inline]
 fn list_calls(parser: &mut Parser<'_>, report: &Report<'_>) -> Result<Listing, AllocError> {
     let mut bytes = Vec::new();
     let has_faults = put_calls(&mut bytes, parser)?;
@@ -73,7 +69,6 @@ fn list_calls(parser: &mut Parser<'_>, report: &Report<'_>) -> Result<Listing, A
 }
 
 /// Returns the listing of a text, with the literal that it is in if there is one.
-#[inline]
 fn list_source(
     text: &str,
     style: Option<usize>,
@@ -88,7 +83,6 @@ fn list_source(
 
 /// Returns the listing of an input that is to be a string literal, perhaps with a newline after it.
 /// Returns `Err` if the input is not a string literal or an allocation fails.
-#[inline]
 fn list_literal(input: &str, task: Task<'_>) -> Result<Listing, RunFault> {
     let literal = strip_newline(input);
     let Some(LiteralText { text, style }) = literal_text(literal)? else {
@@ -99,7 +93,6 @@ fn list_literal(input: &str, task: Task<'_>) -> Result<Listing, RunFault> {
 
 /// Returns the listing of a text, which is a string literal if the task says so. Returns `Err` if
 /// it is to be one and is none, or if an allocation fails.
-#[inline]
 fn list_text(text: &str, task: Task<'_>) -> Result<Listing, RunFault> {
     if task.is_literal {
         list_literal(text, task)
@@ -116,7 +109,6 @@ fn list_text(text: &str, task: Task<'_>) -> Result<Listing, RunFault> {
 /// The input may have at most 1,048,576 bytes. Returns `Err` if the words are invalid, if the input
 /// is too long, not UTF-8 or, with `--literal`, not a string literal, or if an allocation fails
 /// (`RunFault`, but neither `Read` nor `Write`).
-#[inline]
 pub fn list(input: &[u8], words: &[String]) -> Result<Listing, RunFault> {
     let Some(task) = task_of(words) else {
         return Err(RunFault::Words);

@@ -15,7 +15,6 @@ use crate::shim::prelude::*;
 use core::ops::Range;
 
 /// Appends a position.
-#[inline]
 fn put_position(writer: &mut Writer, position: &Position<'_>) -> Result<(), AllocError> {
     match position {
         Position::ArgumentImplicitlyIs(n) => put_index(writer, "implicit", *n),
@@ -25,7 +24,6 @@ fn put_position(writer: &mut Writer, position: &Position<'_>) -> Result<(), Allo
 }
 
 /// Appends a count that is a number.
-#[inline]
 fn put_count_number(writer: &mut Writer, number: u16) -> Result<(), AllocError> {
     begin_kind(writer, "number")?;
     put_number(writer, "value", usize::from(number))?;
@@ -34,7 +32,6 @@ fn put_count_number(writer: &mut Writer, number: u16) -> Result<(), AllocError> 
 }
 
 /// Appends a count that is the value of an argument with a name.
-#[inline]
 fn put_count_name(writer: &mut Writer, name: &str, span: &Range<usize>) -> Result<(), AllocError> {
     begin_kind(writer, "name")?;
     writer.key("name")?;
@@ -45,7 +42,6 @@ fn put_count_name(writer: &mut Writer, name: &str, span: &Range<usize>) -> Resul
 }
 
 /// Appends a key and a width or a precision.
-#[inline]
 fn put_count(writer: &mut Writer, name: &str, count: &Count<'_>) -> Result<(), AllocError> {
     writer.key(name)?;
     match count {
@@ -59,7 +55,6 @@ fn put_count(writer: &mut Writer, name: &str, count: &Count<'_>) -> Result<(), A
 }
 
 /// Appends a character as a string.
-#[inline]
 fn put_char(writer: &mut Writer, c: char) -> Result<(), AllocError> {
     let mut text = String::new();
     text.try_push(c)?;
@@ -68,7 +63,6 @@ fn put_char(writer: &mut Writer, c: char) -> Result<(), AllocError> {
 }
 
 /// Appends a fill character, or null if there is none.
-#[inline]
 fn put_fill(writer: &mut Writer, fill: Option<char>) -> Result<(), AllocError> {
     match fill {
         Some(c) => put_char(writer, c),
@@ -77,7 +71,6 @@ fn put_fill(writer: &mut Writer, fill: Option<char>) -> Result<(), AllocError> {
 }
 
 /// Appends an alignment, or null if none is given.
-#[inline]
 fn put_align(writer: &mut Writer, align: Alignment) -> Result<(), AllocError> {
     match align {
         Alignment::AlignLeft => writer.string("left"),
@@ -88,7 +81,6 @@ fn put_align(writer: &mut Writer, align: Alignment) -> Result<(), AllocError> {
 }
 
 /// Appends a sign flag, or null if there is none.
-#[inline]
 fn put_sign(writer: &mut Writer, sign: Option<Sign>) -> Result<(), AllocError> {
     match sign {
         Some(Sign::Plus) => writer.string("plus"),
@@ -98,7 +90,6 @@ fn put_sign(writer: &mut Writer, sign: Option<Sign>) -> Result<(), AllocError> {
 }
 
 /// Appends a key and whether a flag is present.
-#[inline]
 fn put_flag(writer: &mut Writer, name: &str, flag: bool) -> Result<(), AllocError> {
     writer.key(name)?;
     writer.boolean(flag)?;
@@ -106,7 +97,6 @@ fn put_flag(writer: &mut Writer, name: &str, flag: bool) -> Result<(), AllocErro
 }
 
 /// Appends the case of hexadecimal digits, or null if it is not given.
-#[inline]
 fn put_hex(writer: &mut Writer, hex: Option<DebugHex>) -> Result<(), AllocError> {
     match hex {
         Some(DebugHex::Lower) => writer.string("lower"),
@@ -116,7 +106,6 @@ fn put_hex(writer: &mut Writer, hex: Option<DebugHex>) -> Result<(), AllocError>
 }
 
 /// Appends a format specification.
-#[inline]
 fn put_format(writer: &mut Writer, format: &FormatSpec<'_>) -> Result<(), AllocError> {
     writer.begin_object()?;
     writer.key("fill")?;
@@ -142,7 +131,6 @@ fn put_format(writer: &mut Writer, format: &FormatSpec<'_>) -> Result<(), AllocE
 }
 
 /// Appends a run of text.
-#[inline]
 fn put_run(writer: &mut Writer, text: &str) -> Result<(), AllocError> {
     begin_kind(writer, "text")?;
     writer.key("text")?;
@@ -152,7 +140,6 @@ fn put_run(writer: &mut Writer, text: &str) -> Result<(), AllocError> {
 }
 
 /// Appends a placeholder.
-#[inline]
 fn put_placeholder(writer: &mut Writer, argument: &Argument<'_>) -> Result<(), AllocError> {
     begin_kind(writer, "placeholder")?;
     writer.key("position")?;
@@ -165,7 +152,6 @@ fn put_placeholder(writer: &mut Writer, argument: &Argument<'_>) -> Result<(), A
 }
 
 /// Appends a piece. A placeholder is in `argument`.
-#[inline]
 pub fn put_piece(
     writer: &mut Writer,
     piece: &PieceKind<'_>,

@@ -12,7 +12,6 @@ use crate::shim::alloc::AllocError;
 use crate::shim::prelude::*;
 
 /// Appends the line of an index.
-#[inline]
 fn put_index_line(out: &mut Vec<u8>, kind: &str, index: usize) -> Result<(), AllocError> {
     let mut writer = begin_line(out);
     put_index(&mut writer, kind, index)?;
@@ -21,7 +20,6 @@ fn put_index_line(out: &mut Vec<u8>, kind: &str, index: usize) -> Result<(), All
 }
 
 /// Appends a line for each index.
-#[inline]
 fn put_indices(out: &mut Vec<u8>, kind: &str, indices: &[usize]) -> Result<(), AllocError> {
     for index in indices {
         put_index_line(out, kind, *index)?;
@@ -30,7 +28,6 @@ fn put_indices(out: &mut Vec<u8>, kind: &str, indices: &[usize]) -> Result<(), A
 }
 
 /// Appends the line of a name.
-#[inline]
 fn put_name_line(out: &mut Vec<u8>, kind: &str, name: &str) -> Result<(), AllocError> {
     let mut writer = begin_line(out);
     put_name(&mut writer, kind, name)?;
@@ -39,7 +36,6 @@ fn put_name_line(out: &mut Vec<u8>, kind: &str, name: &str) -> Result<(), AllocE
 }
 
 /// Appends a line for each name.
-#[inline]
 fn put_names(out: &mut Vec<u8>, kind: &str, names: &[&str]) -> Result<(), AllocError> {
     for name in names {
         put_name_line(out, kind, name)?;
@@ -48,7 +44,6 @@ fn put_names(out: &mut Vec<u8>, kind: &str, names: &[&str]) -> Result<(), AllocE
 }
 
 /// Appends a line for each entry of a report.
-#[inline]
 pub fn put_report(out: &mut Vec<u8>, report: &Report<'_>) -> Result<(), AllocError> {
     put_indices(out, "missing-index", report.missing_index.as_slice())?;
     put_names(out, "missing-name", report.missing_name.as_slice())?;

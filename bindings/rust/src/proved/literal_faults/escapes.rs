@@ -17,7 +17,6 @@ fn hex_digit(c: char) -> Option<u32> {
 
 /// Returns the rest after the hexadecimal digit of a byte escape, or the fault if no digit comes
 /// next.
-#[inline]
 fn after_digit(text: &str) -> Result<&str, FaultKind> {
     match split_first(text) {
         None => Err(FaultKind::UnterminatedString),
@@ -34,7 +33,6 @@ fn after_digit(text: &str) -> Result<&str, FaultKind> {
 }
 
 /// Returns the fault of a byte escape, by the text after its `\x`.
-#[inline]
 fn byte_fault(text: &str) -> FaultKind {
     let first = match after_digit(text) {
         Ok(rest) => rest,
@@ -48,7 +46,6 @@ fn byte_fault(text: &str) -> FaultKind {
 
 /// Returns the number that the hexadecimal digits at the start of a text write, `_` between them
 /// aside, or `None` if there are more than `MOST_DIGITS`.
-#[inline]
 fn number(text: &str) -> Option<u32> {
     let mut count = 0;
     let mut value: u32 = 0;
@@ -69,7 +66,6 @@ fn number(text: &str) -> Option<u32> {
 }
 
 /// Returns the fault of the number that the digits at the start of a text write.
-#[inline]
 fn number_fault(text: &str) -> FaultKind {
     match number(text) {
         None => FaultKind::OverlongUnicodeEscape,
@@ -84,7 +80,6 @@ fn number_fault(text: &str) -> FaultKind {
 }
 
 /// Returns the rest of a text after the hexadecimal digits and `_` at its start.
-#[inline]
 fn after_digits(text: &str) -> &str {
     let mut rest = text;
     while let Some((c, more)) = split_first(rest) {
@@ -97,7 +92,6 @@ fn after_digits(text: &str) -> &str {
 }
 
 /// Returns the fault of a Unicode escape, by the text after its opening brace.
-#[inline]
 fn braces_fault(text: &str) -> FaultKind {
     match split_first(text) {
         Some(('_', _)) => return FaultKind::LeadingUnderscoreUnicodeEscape,
@@ -113,7 +107,6 @@ fn braces_fault(text: &str) -> FaultKind {
 }
 
 /// Returns the fault of a Unicode escape, by the text after its `\u`.
-#[inline]
 fn unicode_fault(text: &str) -> FaultKind {
     match split_first(text) {
         None => FaultKind::UnterminatedString,
@@ -123,7 +116,6 @@ fn unicode_fault(text: &str) -> FaultKind {
 }
 
 /// Returns the fault of an escape, by the text after its backslash.
-#[inline]
 pub fn escape_fault(text: &str) -> FaultKind {
     match split_first(text) {
         None => FaultKind::UnterminatedString,

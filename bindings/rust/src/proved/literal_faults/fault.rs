@@ -80,7 +80,6 @@ fn trailing_fault(is_suffix: bool) -> FaultKind {
 
 /// Returns the fault at a place of an ordinary literal where no character and no escape comes next,
 /// or `None` if only the closing quote is left.
-#[inline]
 fn stop_fault(text: &str) -> Option<FaultKind> {
     match split_first(text) {
         None => Some(FaultKind::UnterminatedString),
@@ -94,7 +93,6 @@ fn stop_fault(text: &str) -> Option<FaultKind> {
 }
 
 /// Returns the rest of a text after a closing quote, or the text if it does not begin with one.
-#[inline]
 fn after_quote(text: &str) -> &str {
     match split_first(text) {
         Some(('"', rest)) => rest,
@@ -103,7 +101,6 @@ fn after_quote(text: &str) -> &str {
 }
 
 /// Returns the fault of a text that does not begin with a quote, or `None` if the text is empty.
-#[inline]
 fn token_fault(text: &str) -> Option<LiteralFault> {
     let (token, _) = split_first_token(text)?;
     if token.kind != Kind::RawStr {
@@ -124,7 +121,6 @@ fn token_fault(text: &str) -> Option<LiteralFault> {
 
 /// Returns the fault of a text by the text after the quote at its start, or `None` if the text is
 /// an ordinary string literal.
-#[inline]
 fn string_fault(text: &str, content: &str) -> Option<LiteralFault> {
     let stop = after_units(content);
     let kind = stop_fault(stop)?;
@@ -140,7 +136,6 @@ fn string_fault(text: &str, content: &str) -> Option<LiteralFault> {
 /// The fault is at the first place at which the text can no longer be read as a string literal. The
 /// rules are those of the Rust Reference, except that a raw literal may hold any character, and its
 /// own closing sequence too. White space after a literal is a fault. Does not allocate.
-#[inline]
 pub fn literal_fault(text: &str) -> Option<LiteralFault> {
     if raw_text(text).is_some() {
         return None;

@@ -7,7 +7,6 @@ use crate::proved::rustc_parse_format::literal::{split_first_unit, FirstUnit};
 
 /// Returns the rest of a text after the characters and escapes of an ordinary string literal that
 /// it begins with.
-#[inline]
 pub fn after_units(content: &str) -> &str {
     let mut rest = content;
     while let Some(FirstUnit {

@@ -26,7 +26,6 @@ pub struct Message<'a, 's, 'p> {
 }
 
 /// Returns a text as a string.
-#[inline]
 fn owned_string(text: Option<&str>) -> Result<Option<String>, AllocError> {
     match text {
         None => Ok(None),
@@ -35,7 +34,6 @@ fn owned_string(text: Option<&str>) -> Result<Option<String>, AllocError> {
 }
 
 /// Returns the fault of a text that rustc shows, or `None` if it is in the grammar.
-#[inline]
 fn fault_of<'a>(message: Message<'a, '_, '_>) -> Result<Option<Fault<'a>>, AllocError> {
     let snippet = owned_string(message.snippet)?;
     let mut parser = Parser::new(message.text, None, snippet, false, ParseMode::Diagnostic)?;
@@ -50,7 +48,6 @@ fn insert<'a>(names: &mut BTreeSet<&'a str>, name: &'a str) -> Result<(), AllocE
 }
 
 /// Returns the set of the names of parameters, for [`Message::parameters`].
-#[inline]
 pub fn names_of<'a>(parameters: &[&'a str]) -> Result<BTreeSet<&'a str>, AllocError> {
     let mut names = BTreeSet::new();
     for parameter in parameters {
@@ -72,7 +69,6 @@ fn is_self(name: &str) -> bool {
 }
 
 /// Returns a range of the literal, or all of it where its ranges are not known.
-#[inline]
 fn spot_of(is_known: bool, span: &Range<usize>) -> Spot {
     if !is_known {
         return Spot::Literal;
@@ -84,7 +80,6 @@ fn spot_of(is_known: bool, span: &Range<usize>) -> Spot {
 }
 
 /// Adds the fault of the specification of a placeholder, if it has one.
-#[inline]
 fn push_specifier<'a>(
     faults: &mut Vec<MessageFault<'a>>,
     is_known: bool,
@@ -99,7 +94,6 @@ fn push_specifier<'a>(
 }
 
 /// Adds the fault of a name, if it is that of no parameter.
-#[inline]
 fn push_name<'a>(
     faults: &mut Vec<MessageFault<'a>>,
     names: Option<&BTreeSet<&str>>,
@@ -115,7 +109,6 @@ fn push_name<'a>(
 }
 
 /// Adds the faults of a placeholder.
-#[inline]
 fn push_placeholder<'a>(
     faults: &mut Vec<MessageFault<'a>>,
     names: Option<&BTreeSet<&str>>,
@@ -134,7 +127,6 @@ fn push_placeholder<'a>(
 }
 
 /// Adds the faults of a piece.
-#[inline]
 fn push_piece<'a>(
     faults: &mut Vec<MessageFault<'a>>,
     names: Option<&BTreeSet<&str>>,
@@ -148,7 +140,6 @@ fn push_piece<'a>(
 }
 
 /// Adds the faults of pieces.
-#[inline]
 fn push_pieces<'a>(
     faults: &mut Vec<MessageFault<'a>>,
     names: Option<&BTreeSet<&str>>,
@@ -162,7 +153,6 @@ fn push_pieces<'a>(
 }
 
 /// Adds the faults of the placeholders of a text.
-#[inline]
 fn push_placeholders<'a>(
     faults: &mut Vec<MessageFault<'a>>,
     message: Message<'a, '_, '_>,
@@ -176,7 +166,6 @@ fn push_placeholders<'a>(
 }
 
 /// Returns the faults of a text.
-#[inline]
 fn faults_of<'a>(message: Message<'a, '_, '_>) -> Result<Vec<MessageFault<'a>>, AllocError> {
     let mut faults = Vec::new();
     match fault_of(message)? {

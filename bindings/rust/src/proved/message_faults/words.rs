@@ -11,7 +11,6 @@ use crate::shim::alloc::AllocError;
 use crate::shim::prelude::*;
 
 /// Adds a name between backquotes.
-#[inline]
 fn put_quoted(out: &mut String, name: &str) -> Result<(), AllocError> {
     out.try_push_str("`")?;
     out.try_push_str(name)?;
@@ -20,7 +19,6 @@ fn put_quoted(out: &mut String, name: &str) -> Result<(), AllocError> {
 }
 
 /// Adds the title of a name that is that of no parameter of a trait.
-#[inline]
 fn put_parameter_title(out: &mut String, name: &str, trait_name: &str) -> Result<(), AllocError> {
     out.try_push_str("there is no parameter ")?;
     put_quoted(out, name)?;
@@ -30,7 +28,6 @@ fn put_parameter_title(out: &mut String, name: &str, trait_name: &str) -> Result
 }
 
 /// Adds the title of a fault of the text.
-#[inline]
 fn put_text_title(out: &mut String, fault: &Fault<'_>) -> Result<(), AllocError> {
     let error = fault.error()?;
     out.try_push_str(&error.description)?;
@@ -38,7 +35,6 @@ fn put_text_title(out: &mut String, fault: &Fault<'_>) -> Result<(), AllocError>
 }
 
 /// Adds a label of a place that the fault is about, without a text.
-#[inline]
 fn push_plain(labels: &mut Vec<CallLabel>, spot: Spot) -> Result<(), AllocError> {
     let text = String::new();
     labels.try_push(CallLabel {
@@ -50,7 +46,6 @@ fn push_plain(labels: &mut Vec<CallLabel>, spot: Spot) -> Result<(), AllocError>
 }
 
 /// Adds a label of another place.
-#[inline]
 fn push_secondary(labels: &mut Vec<CallLabel>, spot: Spot, text: &str) -> Result<(), AllocError> {
     let text = String::made_from(text)?;
     labels.try_push(CallLabel {
@@ -62,7 +57,6 @@ fn push_secondary(labels: &mut Vec<CallLabel>, spot: Spot, text: &str) -> Result
 }
 
 /// Adds the labels of a fault of the text.
-#[inline]
 fn push_text(labels: &mut Vec<CallLabel>, fault: &Fault<'_>) -> Result<(), AllocError> {
     let error = fault.error()?;
     let spot = Spot::Bytes {
@@ -77,7 +71,6 @@ fn push_text(labels: &mut Vec<CallLabel>, fault: &Fault<'_>) -> Result<(), Alloc
 impl<'a> MessageFault<'a> {
     /// Returns the id of the fault in kebab case, as `missing-parameter`: the same for all faults
     /// of a kind. A fault of the text has the id of its [`Fault`]. Does not allocate.
-    #[inline]
     pub fn id(&self) -> &'static str {
         match self {
             MessageFault::Text(fault) => fault.id(),
@@ -88,7 +81,6 @@ impl<'a> MessageFault<'a> {
     }
 
     /// Adds the title of the fault to the end of `out`, as rustc has it, for a trait of this name.
-    #[inline]
     pub(crate) fn put_title(&self, out: &mut String, trait_name: &str) -> Result<(), AllocError> {
         match self {
             MessageFault::Text(fault) => put_text_title(out, fault)?,
@@ -104,7 +96,6 @@ impl<'a> MessageFault<'a> {
     }
 
     /// Returns the labels of the fault, in rustc's order.
-    #[inline]
     pub(crate) fn labels(&self) -> Result<Vec<CallLabel>, AllocError> {
         let mut labels = Vec::new();
         match self {
@@ -117,7 +108,6 @@ impl<'a> MessageFault<'a> {
     }
 
     /// Returns the help of the fault, or `None` if it has none. Does not allocate.
-    #[inline]
     pub fn help(&self) -> Option<&'static str> {
         match self {
             MessageFault::Text(_) => None,

@@ -3,13 +3,13 @@
 // Extracted from crates/message_forms/src/github.rt by tools/extract: not to be edited.
 // That source has the contracts, and is proved. That this text means the same is only tested.
 
-use crate::proved::message_forms::escapes::{put_command_text, put_number};
+use crate::proved::message_forms::escapes::put_number;
 use crate::proved::message_forms::message::{level_name, Message, Span};
+use crate::proved::shown_text::{put_shown, Kind};
 use crate::shim::alloc::AllocError;
 use crate::shim::prelude::*;
 
 /// Appends a property with a number.
-#[inline]
 fn put_property(out: &mut String, opening: &str, number: usize) -> Result<(), AllocError> {
     out.try_push_str(opening)?;
     put_number(out, number)?;
@@ -18,7 +18,6 @@ fn put_property(out: &mut String, opening: &str, number: usize) -> Result<(), Al
 
 /// Appends the properties that say where a span is. Columns are only written where it is in one
 /// line.
-#[inline]
 fn put_places(out: &mut String, span: &Span<'_>) -> Result<(), AllocError> {
     put_property(out, ",line=", span.start.line)?;
     if span.start.line == span.end.line {
@@ -32,17 +31,16 @@ fn put_places(out: &mut String, span: &Span<'_>) -> Result<(), AllocError> {
 
 /// Appends a message as a workflow command of GitHub Actions, which shows it beside the source:
 /// `::LEVEL file=PATH,line=LINE,col=COLUMN,endColumn=COLUMN::TITLE [ID]`.
-#[inline]
 pub fn put_github(out: &mut String, message: &Message<'_>) -> Result<(), AllocError> {
     out.try_push_str("::")?;
     out.try_push_str(level_name(message.level))?;
     out.try_push_str(" file=")?;
-    put_command_text(out, true, message.path)?;
+    put_shown(out, Kind::Property, message.path)?;
     put_places(out, &message.primary)?;
     out.try_push_str("::")?;
-    put_command_text(out, false, message.title)?;
+    put_shown(out, Kind::Message, message.title)?;
     out.try_push_str(" [")?;
-    put_command_text(out, false, message.id)?;
+    put_shown(out, Kind::Message, message.id)?;
     out.try_push_str("]\n")?;
     Ok(())
 }

@@ -14,7 +14,6 @@ use crate::shim::alloc::AllocError;
 use crate::shim::prelude::*;
 
 /// Adds a line of a span, which is between these columns there.
-#[inline]
 fn put_line(out: &mut String, line: &str, from: usize, to: usize) -> Result<(), AllocError> {
     put_text(out, false, "text", line)?;
     put_count(out, true, "highlight_start", from)?;
@@ -24,7 +23,6 @@ fn put_line(out: &mut String, line: &str, from: usize, to: usize) -> Result<(), 
 }
 
 /// Returns a line without the CR at its end, if it has one.
-#[inline]
 fn without_cr(line: &str) -> &str {
     match line.strip_suffix('\r') {
         Some(front) => front,
@@ -33,7 +31,6 @@ fn without_cr(line: &str) -> &str {
 }
 
 /// Returns the first line of a text without its line end, and the text after that.
-#[inline]
 fn split_line(text: &str) -> (&str, &str) {
     match text.split_once('\n') {
         Some((line, rest)) => (without_cr(line), rest),
@@ -49,7 +46,6 @@ fn length_of(text: &str) -> usize {
 
 /// Adds the lines of a span that begins and ends at these columns, where `line_count` lines come
 /// after the first one.
-#[inline]
 fn put_lines(
     out: &mut String,
     lines: &str,
@@ -75,8 +71,24 @@ fn put_lines(
     Ok(())
 }
 
-/// Adds the members that say where a span is.
+/// Adds an array without items.
 #[inline]
+fn put_empty_array(out: &mut String) -> Result<(), AllocError> {
+    out.try_push_str("[]")?;
+    Ok(())
+}
+
+/// Adds the lines of a span, or no line if they are not shown.
+fn put_span_lines(out: &mut String, span: &Span<'_>) -> Result<(), AllocError> {
+    let Some(lines) = span.lines else {
+        return Ok(put_empty_array(out)?);
+    };
+    let line_count = span.end.line.saturating_sub(span.start.line);
+    put_lines(out, lines, span.start.column, span.end.column, line_count)?;
+    Ok(())
+}
+
+/// Adds the members that say where a span is.
 fn put_places(out: &mut String, path: &str, span: &Span<'_>) -> Result<(), AllocError> {
     put_text(out, false, "file_name", path)?;
     put_count(out, true, "byte_start", span.byte_start)?;
@@ -89,7 +101,6 @@ fn put_places(out: &mut String, path: &str, span: &Span<'_>) -> Result<(), Alloc
 }
 
 /// Returns the text of a suggestion, or `None` if there is no suggestion.
-#[inline]
 fn replacement<'a>(suggestion: &Option<Suggestion<'a>>) -> Option<&'a str> {
     match suggestion {
         Some(suggestion) => Some(suggestion.text),
@@ -98,7 +109,6 @@ fn replacement<'a>(suggestion: &Option<Suggestion<'a>>) -> Option<&'a str> {
 }
 
 /// Returns the word for how sure a suggestion is, or `None` if there is no suggestion.
-#[inline]
 fn applicability(suggestion: &Option<Suggestion<'_>>) -> Option<&'static str> {
     match suggestion {
         Some(suggestion) if suggestion.is_sure => Some("MachineApplicable"),
@@ -108,18 +118,10 @@ fn applicability(suggestion: &Option<Suggestion<'_>>) -> Option<&'static str> {
 }
 
 /// Adds the members of a span that come after its places, and the end of its object.
-#[inline]
 fn put_details(out: &mut String, span: &Span<'_>) -> Result<(), AllocError> {
     put_truth(out, true, "is_primary", span.is_primary)?;
     put_key(out, true, "text")?;
-    let line_count = span.end.line.saturating_sub(span.start.line);
-    put_lines(
-        out,
-        span.lines,
-        span.start.column,
-        span.end.column,
-        line_count,
-    )?;
+    put_span_lines(out, span)?;
     put_text_or_null(out, "label", span.label)?;
     let text = replacement(&span.suggestion);
     put_text_or_null(out, "suggested_replacement", text)?;
@@ -131,7 +133,6 @@ fn put_details(out: &mut String, span: &Span<'_>) -> Result<(), AllocError> {
 }
 
 /// Adds a span.
-#[inline]
 fn put_span(out: &mut String, path: &str, span: &Span<'_>) -> Result<(), AllocError> {
     put_places(out, path, span)?;
     put_details(out, span)?;
@@ -139,7 +140,6 @@ fn put_span(out: &mut String, path: &str, span: &Span<'_>) -> Result<(), AllocEr
 }
 
 /// Adds spans.
-#[inline]
 fn put_spans(out: &mut String, path: &str, spans: &[Span<'_>]) -> Result<(), AllocError> {
     out.try_push_str("[")?;
     let mut is_later = false;
@@ -152,15 +152,7 @@ fn put_spans(out: &mut String, path: &str, spans: &[Span<'_>]) -> Result<(), All
     Ok(())
 }
 
-/// Adds an array without items.
-#[inline]
-fn put_empty_array(out: &mut String) -> Result<(), AllocError> {
-    out.try_push_str("[]")?;
-    Ok(())
-}
-
 /// Adds a note or a help.
-#[inline]
 fn put_child(out: &mut String, path: &str, child: &Child<'_, '_>) -> Result<(), AllocError> {
     put_text(out, false, "message", child.text)?;
     put_text_or_null(out, "code", None)?;
@@ -175,7 +167,6 @@ fn put_child(out: &mut String, path: &str, child: &Child<'_, '_>) -> Result<(), 
 }
 
 /// Adds notes and helps.
-#[inline]
 fn put_children(
     out: &mut String,
     path: &str,
@@ -193,7 +184,6 @@ fn put_children(
 }
 
 /// Adds the id of a message.
-#[inline]
 fn put_code(out: &mut String, id: &str) -> Result<(), AllocError> {
     put_text(out, false, "code", id)?;
     put_text_or_null(out, "explanation", None)?;
@@ -202,7 +192,6 @@ fn put_code(out: &mut String, id: &str) -> Result<(), AllocError> {
 }
 
 /// Adds the spans of a message, its notes and helps and its drawing, and the end of its object.
-#[inline]
 fn put_below(
     out: &mut String,
     path: &str,
@@ -222,7 +211,6 @@ fn put_below(
 /// Appends a message as a line of JSON with the members that rustc writes with
 /// `--error-format=json`: its ranges, its notes and helps, and its drawing for people. Its id
 /// stands in the place of rustc's code.
-#[inline]
 pub fn put_json(
     out: &mut String,
     message: &Message<'_>,

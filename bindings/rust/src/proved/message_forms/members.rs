@@ -20,7 +20,6 @@ fn opening(is_later: bool) -> &'static str {
 }
 
 /// Adds the key of a member.
-#[inline]
 pub fn put_key(out: &mut String, is_later: bool, key: &str) -> Result<(), AllocError> {
     out.try_push_str(opening(is_later))?;
     put_quoted(out, key)?;
@@ -43,7 +42,6 @@ fn put_string(out: &mut String, text: &str) -> Result<(), AllocError> {
 }
 
 /// Adds a text or `null` as a value.
-#[inline]
 fn put_string_or_null(out: &mut String, text: Option<&str>) -> Result<(), AllocError> {
     match text {
         Some(text) => put_quoted(out, text)?,
@@ -60,14 +58,12 @@ fn put_digits(out: &mut String, number: usize) -> Result<(), AllocError> {
 }
 
 /// Adds a truth value.
-#[inline]
 fn put_bool(out: &mut String, value: bool) -> Result<(), AllocError> {
     out.try_push_str(if value { "true" } else { "false" })?;
     Ok(())
 }
 
 /// Adds a member with a text.
-#[inline]
 pub fn put_text(out: &mut String, is_later: bool, key: &str, text: &str) -> Result<(), AllocError> {
     put_key(out, is_later, key)?;
     put_string(out, text)?;
@@ -75,7 +71,6 @@ pub fn put_text(out: &mut String, is_later: bool, key: &str, text: &str) -> Resu
 }
 
 /// Adds a member with a text, or with `null`, after another one.
-#[inline]
 pub fn put_text_or_null(out: &mut String, key: &str, text: Option<&str>) -> Result<(), AllocError> {
     put_key(out, true, key)?;
     put_string_or_null(out, text)?;
@@ -83,7 +78,6 @@ pub fn put_text_or_null(out: &mut String, key: &str, text: Option<&str>) -> Resu
 }
 
 /// Adds a member with a number.
-#[inline]
 pub fn put_count(
     out: &mut String,
     is_later: bool,
@@ -96,7 +90,6 @@ pub fn put_count(
 }
 
 /// Adds a member with a truth value.
-#[inline]
 pub fn put_truth(
     out: &mut String,
     is_later: bool,

@@ -13,7 +13,6 @@ use crate::shim::alloc::AllocError;
 use crate::shim::prelude::*;
 
 /// Adds a plain text as a message.
-#[inline]
 fn put_plain(out: &mut String, text: &str) -> Result<(), AllocError> {
     put_text(out, false, "text", text)?;
     put_end(out)?;
@@ -21,7 +20,6 @@ fn put_plain(out: &mut String, text: &str) -> Result<(), AllocError> {
 }
 
 /// Adds a member with a plain text as a message, after another one.
-#[inline]
 fn put_plain_member(out: &mut String, key: &str, text: &str) -> Result<(), AllocError> {
     put_key(out, true, key)?;
     put_plain(out, text)?;
@@ -29,7 +27,6 @@ fn put_plain_member(out: &mut String, key: &str, text: &str) -> Result<(), Alloc
 }
 
 /// Adds a region.
-#[inline]
 fn put_region(out: &mut String, span: &Span<'_>) -> Result<(), AllocError> {
     put_count(out, false, "startLine", span.start.line)?;
     put_count(out, true, "startColumn", span.start.column)?;
@@ -40,7 +37,6 @@ fn put_region(out: &mut String, span: &Span<'_>) -> Result<(), AllocError> {
 }
 
 /// Returns a path as a URI.
-#[inline]
 fn uri_of(path: &str) -> Result<String, AllocError> {
     let mut text = String::new();
     put_uri(&mut text, path)?;
@@ -48,7 +44,6 @@ fn uri_of(path: &str) -> Result<String, AllocError> {
 }
 
 /// Adds a file.
-#[inline]
 fn put_artifact(out: &mut String, path: &str) -> Result<(), AllocError> {
     let text = uri_of(path)?;
     put_text(out, false, "uri", text.as_str())?;
@@ -57,7 +52,6 @@ fn put_artifact(out: &mut String, path: &str) -> Result<(), AllocError> {
 }
 
 /// Adds a range of a file.
-#[inline]
 fn put_physical(out: &mut String, path: &str, span: &Span<'_>) -> Result<(), AllocError> {
     put_key(out, false, "artifactLocation")?;
     put_artifact(out, path)?;
@@ -68,7 +62,6 @@ fn put_physical(out: &mut String, path: &str, span: &Span<'_>) -> Result<(), All
 }
 
 /// Adds a range of a file as a location.
-#[inline]
 fn put_location(out: &mut String, path: &str, span: &Span<'_>) -> Result<(), AllocError> {
     put_key(out, false, "physicalLocation")?;
     put_physical(out, path, span)?;
@@ -77,7 +70,6 @@ fn put_location(out: &mut String, path: &str, span: &Span<'_>) -> Result<(), All
 }
 
 /// Adds a range of a file as the only location.
-#[inline]
 fn put_locations(out: &mut String, path: &str, span: &Span<'_>) -> Result<(), AllocError> {
     out.try_push_str("[")?;
     put_location(out, path, span)?;
@@ -86,7 +78,6 @@ fn put_locations(out: &mut String, path: &str, span: &Span<'_>) -> Result<(), Al
 }
 
 /// Adds a message as a result.
-#[inline]
 fn put_result(out: &mut String, message: &Message<'_>) -> Result<(), AllocError> {
     put_text(out, false, "ruleId", message.id)?;
     put_text(out, true, "level", level_name(message.level))?;
@@ -99,7 +90,6 @@ fn put_result(out: &mut String, message: &Message<'_>) -> Result<(), AllocError>
 
 /// Appends a message as a result of a log. Another result comes before it unless `is_first` is
 /// true.
-#[inline]
 pub fn put_sarif_result(
     out: &mut String,
     is_first: bool,
@@ -111,7 +101,6 @@ pub fn put_sarif_result(
 }
 
 /// Returns the text of a rule.
-#[inline]
 fn explanation(rule: &Rule) -> Result<String, AllocError> {
     let mut text = String::new();
     put_explanation(&mut text, rule)?;
@@ -119,7 +108,6 @@ fn explanation(rule: &Rule) -> Result<String, AllocError> {
 }
 
 /// Adds a rule.
-#[inline]
 fn put_rule(out: &mut String, rule: &Rule) -> Result<(), AllocError> {
     let text = explanation(rule)?;
     put_text(out, false, "id", rule.id)?;
@@ -131,7 +119,6 @@ fn put_rule(out: &mut String, rule: &Rule) -> Result<(), AllocError> {
 }
 
 /// Adds rules.
-#[inline]
 fn put_rules(out: &mut String, rules: &[Rule]) -> Result<(), AllocError> {
     out.try_push_str("[")?;
     let mut is_later = false;
@@ -145,7 +132,6 @@ fn put_rules(out: &mut String, rules: &[Rule]) -> Result<(), AllocError> {
 }
 
 /// Adds the program of this version.
-#[inline]
 fn put_driver(out: &mut String, version: &str, rules: &[Rule]) -> Result<(), AllocError> {
     put_text(out, false, "name", "formatlint")?;
     put_text(out, true, "version", version)?;
@@ -156,7 +142,6 @@ fn put_driver(out: &mut String, version: &str, rules: &[Rule]) -> Result<(), All
 }
 
 /// Adds the program as a tool.
-#[inline]
 fn put_tool(out: &mut String, version: &str, rules: &[Rule]) -> Result<(), AllocError> {
     put_key(out, false, "driver")?;
     put_driver(out, version, rules)?;
@@ -165,7 +150,6 @@ fn put_tool(out: &mut String, version: &str, rules: &[Rule]) -> Result<(), Alloc
 }
 
 /// Adds the start of a run, up to its results.
-#[inline]
 fn put_run_start(out: &mut String, version: &str, rules: &[Rule]) -> Result<(), AllocError> {
     put_key(out, false, "tool")?;
     put_tool(out, version, rules)?;
@@ -177,7 +161,6 @@ fn put_run_start(out: &mut String, version: &str, rules: &[Rule]) -> Result<(), 
 
 /// Appends the start of a log, up to its results, which [`put_sarif_result`] appends; after them
 /// [`put_sarif_end`] ends it.
-#[inline]
 pub fn put_sarif_start(out: &mut String, version: &str, rules: &[Rule]) -> Result<(), AllocError> {
     put_text(
         out,
@@ -193,7 +176,6 @@ pub fn put_sarif_start(out: &mut String, version: &str, rules: &[Rule]) -> Resul
 }
 
 /// Adds an invocation: whether the program could read all files.
-#[inline]
 fn put_invocation(out: &mut String, is_whole: bool) -> Result<(), AllocError> {
     put_truth(out, false, "executionSuccessful", is_whole)?;
     put_end(out)?;
@@ -201,7 +183,6 @@ fn put_invocation(out: &mut String, is_whole: bool) -> Result<(), AllocError> {
 }
 
 /// Adds the only invocation: whether the program could read all files.
-#[inline]
 fn put_invocations(out: &mut String, is_whole: bool) -> Result<(), AllocError> {
     out.try_push_str("[")?;
     put_invocation(out, is_whole)?;
@@ -211,7 +192,6 @@ fn put_invocations(out: &mut String, is_whole: bool) -> Result<(), AllocError> {
 
 /// Appends the end of a log, from the end of its results on: whether the program could read all
 /// files (`is_whole`), and a line end.
-#[inline]
 pub fn put_sarif_end(out: &mut String, is_whole: bool) -> Result<(), AllocError> {
     out.try_push_str("]")?;
     put_key(out, true, "invocations")?;

@@ -3,15 +3,14 @@
 // Extracted from crates/message_forms/src/short.rt by tools/extract: not to be edited.
 // That source has the contracts, and is proved. That this text means the same is only tested.
 
-use crate::proved::drawn_lines::put_glyphs;
 use crate::proved::message_forms::escapes::put_number;
 use crate::proved::message_forms::message::{level_name, Message};
 use crate::proved::rust_trees::Place;
+use crate::proved::shown_text::{put_shown, Kind};
 use crate::shim::alloc::AllocError;
 use crate::shim::prelude::*;
 
 /// Appends a place: the line, a colon and the column.
-#[inline]
 fn put_place(out: &mut String, place: Place) -> Result<(), AllocError> {
     put_number(out, place.line)?;
     out.try_push_str(":")?;
@@ -20,18 +19,16 @@ fn put_place(out: &mut String, place: Place) -> Result<(), AllocError> {
 }
 
 /// Appends a message as a line that editors find places in: `PATH:LINE:COLUMN: LEVEL: TITLE [ID]`.
-/// The texts are written as drawings have them.
-#[inline]
 pub fn put_short(out: &mut String, message: &Message<'_>) -> Result<(), AllocError> {
-    put_glyphs(out, message.path, 0)?;
+    put_shown(out, Kind::Line, message.path)?;
     out.try_push_str(":")?;
     put_place(out, message.primary.start)?;
     out.try_push_str(": ")?;
     out.try_push_str(level_name(message.level))?;
     out.try_push_str(": ")?;
-    put_glyphs(out, message.title, 0)?;
+    put_shown(out, Kind::Line, message.title)?;
     out.try_push_str(" [")?;
-    put_glyphs(out, message.id, 0)?;
+    put_shown(out, Kind::Line, message.id)?;
     out.try_push_str("]\n")?;
     Ok(())
 }

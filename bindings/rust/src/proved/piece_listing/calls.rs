@@ -12,7 +12,6 @@ use crate::shim::parser::Parser;
 use crate::shim::prelude::*;
 
 /// Makes the next call of a parser, and returns its piece. A placeholder is in `argument`.
-#[inline]
 fn next_piece<'a>(
     parser: &mut Parser<'a>,
     argument: &mut Argument<'a>,
@@ -25,7 +24,6 @@ fn next_piece<'a>(
 }
 
 /// Appends the line of a piece.
-#[inline]
 fn put_piece_kind(
     out: &mut String,
     piece: &PieceKind<'_>,
@@ -39,7 +37,6 @@ fn put_piece_kind(
 }
 
 /// Adds the arguments that a piece uses, if they are to be compared with those that are given.
-#[inline]
 fn add_uses<'a>(
     uses: &mut Uses<'a>,
     compares_arguments: bool,
@@ -54,7 +51,6 @@ fn add_uses<'a>(
 
 /// Appends the lines of the pieces of a parser up to the first call that returns `None`, and adds
 /// the arguments that they use to `all_uses` if `compares_arguments` is set.
-#[inline]
 pub fn put_calls<'a>(
     out: &mut String,
     all_uses: &mut Uses<'a>,

@@ -26,7 +26,6 @@ pub struct Listing {
 
 /// Appends the lines of errors and of a report. Returns whether there are any, and `Err` if an
 /// allocation fails.
-#[inline]
 fn put_ends(
     lines: &mut String,
     errors: &[ParseError],
@@ -39,7 +38,6 @@ fn put_ends(
 
 /// Returns the listing of the pieces up to the first call of a parser that returns `None`, with the
 /// report on the arguments that are given.
-#[inline]
 fn list_calls<'a>(
     parser: &mut Parser<'a>,
     arguments: Option<GivenArguments<'a>>,
@@ -53,7 +51,6 @@ fn list_calls<'a>(
 }
 
 /// Reads a text with a parser, and returns its listing.
-#[inline]
 fn list_source(
     text: &str,
     style: Option<usize>,
@@ -65,7 +62,6 @@ fn list_source(
 }
 
 /// Returns the listing of the text that a literal stands for.
-#[inline]
 fn list_text_of(
     literal: &str,
     text: &str,
@@ -79,7 +75,6 @@ fn list_text_of(
 /// Returns the listing of the text that the input stands for as a string literal, perhaps with a
 /// newline after it, as editors and shells end a line. Returns `Err` if the input is not a string
 /// literal or an allocation fails.
-#[inline]
 fn list_literal(input: &str, task: Task<'_>) -> Result<Listing, RunFault> {
     let literal = strip_newline(input);
     let Some(LiteralText { text, style }) = literal_text(literal)? else {
@@ -90,7 +85,6 @@ fn list_literal(input: &str, task: Task<'_>) -> Result<Listing, RunFault> {
 
 /// Returns the listing of an input. Returns `Err` if the task needs a string literal and the input
 /// is none, or if an allocation fails.
-#[inline]
 pub fn list_input(input: &str, task: Task<'_>) -> Result<Listing, RunFault> {
     if task.is_literal {
         list_literal(input, task)

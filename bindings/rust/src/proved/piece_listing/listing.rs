@@ -14,7 +14,6 @@ use crate::shim::prelude::*;
 use core::ops::Range;
 
 /// Adds a text, escaped, between quotes.
-#[inline]
 pub fn put_quoted(out: &mut String, text: &str) -> Result<(), AllocError> {
     out.try_push('"')?;
     put_all_written(out, text)?;
@@ -23,7 +22,6 @@ pub fn put_quoted(out: &mut String, text: &str) -> Result<(), AllocError> {
 }
 
 /// Adds the line of a piece of literal text.
-#[inline]
 pub(crate) fn put_literal(out: &mut String, text: &str) -> Result<(), AllocError> {
     out.try_push_str("lit \"")?;
     put_all_written(out, text)?;
@@ -40,7 +38,6 @@ fn put_name(out: &mut String, label: &str, name: &str) -> Result<(), AllocError>
 }
 
 /// Adds the span of the part before it, if that has one.
-#[inline]
 fn put_span_at(out: &mut String, span: &Option<Range<usize>>) -> Result<(), AllocError> {
     if let Some(span) = span {
         put_span(out, '@', span)?;
@@ -49,7 +46,6 @@ fn put_span_at(out: &mut String, span: &Option<Range<usize>>) -> Result<(), Allo
 }
 
 /// Adds the first word of the line of a placeholder, and then its position.
-#[inline]
 fn put_position(out: &mut String, position: &Position<'_>) -> Result<(), AllocError> {
     match position {
         Position::ArgumentImplicitlyIs(n) => put_number(out, "arg implicit ", *n)?,
@@ -60,7 +56,6 @@ fn put_position(out: &mut String, position: &Position<'_>) -> Result<(), AllocEr
 }
 
 /// Adds a fill character and its span, if there is one.
-#[inline]
 fn put_fill(
     out: &mut String,
     fill: Option<char>,
@@ -76,7 +71,6 @@ fn put_fill(
 }
 
 /// Adds an alignment, if there is one.
-#[inline]
 fn put_alignment(out: &mut String, align: Alignment) -> Result<(), AllocError> {
     match align {
         Alignment::AlignLeft => out.try_push_str(" align=left")?,
@@ -88,7 +82,6 @@ fn put_alignment(out: &mut String, align: Alignment) -> Result<(), AllocError> {
 }
 
 /// Adds a sign flag, if there is one.
-#[inline]
 fn put_sign(out: &mut String, sign: Option<Sign>) -> Result<(), AllocError> {
     match sign {
         None => {}
@@ -108,7 +101,6 @@ fn put_flag(out: &mut String, name: &str, flag: bool) -> Result<(), AllocError> 
 }
 
 /// Adds the fill character, the alignment and the flags of a specification.
-#[inline]
 fn put_flags(out: &mut String, spec: &FormatSpec<'_>) -> Result<(), AllocError> {
     put_fill(out, spec.fill, &spec.fill_span)?;
     put_alignment(out, spec.align)?;
@@ -119,7 +111,6 @@ fn put_flags(out: &mut String, spec: &FormatSpec<'_>) -> Result<(), AllocError> 
 }
 
 /// Adds a width or a precision.
-#[inline]
 fn put_count(out: &mut String, count: &Count<'_>) -> Result<(), AllocError> {
     match count {
         Count::CountIs(n) => put_number(out, "is:", usize::from(*n))?,
@@ -149,7 +140,6 @@ fn put_named_count(
 }
 
 /// Adds a width, unless there is none.
-#[inline]
 fn put_width(
     out: &mut String,
     width: &Count<'_>,
@@ -163,7 +153,6 @@ fn put_width(
 }
 
 /// Adds a precision, if it has a span.
-#[inline]
 fn put_precision(
     out: &mut String,
     precision: &Count<'_>,
@@ -176,7 +165,6 @@ fn put_precision(
 }
 
 /// Adds the case of the hexadecimal digits of a debug format, if it has one.
-#[inline]
 fn put_hex(out: &mut String, hex: Option<DebugHex>) -> Result<(), AllocError> {
     match hex {
         None => {}
@@ -187,7 +175,6 @@ fn put_hex(out: &mut String, hex: Option<DebugHex>) -> Result<(), AllocError> {
 }
 
 /// Adds a type, unless it is empty and has no span.
-#[inline]
 fn put_type(out: &mut String, ty: &str, span: &Option<Range<usize>>) -> Result<(), AllocError> {
     if span.is_none() && ty.is_empty() {
         return Ok(());
@@ -199,7 +186,6 @@ fn put_type(out: &mut String, ty: &str, span: &Option<Range<usize>>) -> Result<(
 }
 
 /// Adds the width, the precision and the type of a specification.
-#[inline]
 fn put_values(out: &mut String, spec: &FormatSpec<'_>) -> Result<(), AllocError> {
     put_width(out, &spec.width, &spec.width_span)?;
     put_precision(out, &spec.precision, &spec.precision_span)?;
@@ -209,7 +195,6 @@ fn put_values(out: &mut String, spec: &FormatSpec<'_>) -> Result<(), AllocError>
 }
 
 /// Adds the line of a placeholder.
-#[inline]
 pub(crate) fn put_argument(out: &mut String, argument: &Argument<'_>) -> Result<(), AllocError> {
     put_position(out, &argument.position)?;
     put_span(out, ' ', &argument.position_span)?;
@@ -220,7 +205,6 @@ pub(crate) fn put_argument(out: &mut String, argument: &Argument<'_>) -> Result<
 }
 
 /// Adds the line of an error.
-#[inline]
 fn put_fault(out: &mut String, error: &ParseError) -> Result<(), AllocError> {
     out.try_push_str("fault")?;
     put_span(out, ' ', &error.span)?;
@@ -231,7 +215,6 @@ fn put_fault(out: &mut String, error: &ParseError) -> Result<(), AllocError> {
 }
 
 /// Adds a line for each error, in their order.
-#[inline]
 pub(crate) fn put_faults(out: &mut String, errors: &[ParseError]) -> Result<(), AllocError> {
     for error in errors {
         put_fault(out, error)?;

@@ -14,7 +14,6 @@ fn without_last(text: &str, c: char) -> Option<&str> {
 }
 
 /// Returns a text without the newline at its end, if it ends in one.
-#[inline]
 pub fn strip_newline(text: &str) -> &str {
     match without_last(text, '\n') {
         Some(line) => line,
@@ -29,7 +28,6 @@ fn without_first(text: &str, c: char) -> Option<&str> {
 }
 
 /// Returns the number of hashes at the start of a text, and the text after them.
-#[inline]
 fn leading_hashes(text: &str) -> (usize, &str) {
     let mut count = 0;
     let mut rest = text;
@@ -41,7 +39,6 @@ fn leading_hashes(text: &str) -> (usize, &str) {
 }
 
 /// Returns a text without `count` hashes at its end, or `None` if it does not end in as many.
-#[inline]
 fn without_last_hashes(text: &str, count: usize) -> Option<&str> {
     let mut rest = text;
     for _ in 0..count {
@@ -63,7 +60,6 @@ pub struct RawText<'a> {
 }
 
 /// Returns the parts of a raw string literal, or `None` if it is no raw string literal.
-#[inline]
 pub fn raw_text(literal: &str) -> Option<RawText<'_>> {
     let (hashes, rest) = leading_hashes(without_first(literal, 'r')?);
     let rest = without_first(rest, '"')?;
@@ -73,7 +69,6 @@ pub fn raw_text(literal: &str) -> Option<RawText<'_>> {
 
 /// Returns the text that an ordinary string literal stands for, or `None` if it is no ordinary
 /// string literal.
-#[inline]
 fn ordinary_text(literal: &str) -> Result<Option<String>, AllocError> {
     let Some(content) = quoted_content(literal) else {
         return Ok(None);
@@ -91,7 +86,6 @@ pub struct LiteralText {
 
 /// Returns the text that a string literal stands for, or `None` if it is no string literal. Returns
 /// `Err` if an allocation fails. The rules are those of the Rust Reference.
-#[inline]
 pub fn literal_text(literal: &str) -> Result<Option<LiteralText>, AllocError> {
     if let Some(RawText { hashes, text }) = raw_text(literal) {
         return Ok(Some(LiteralText {

@@ -4,30 +4,30 @@
 // Extracted from crates/piece_listing/src/lib.rt by tools/extract: not to be edited.
 // That source has the contracts, and is proved. That this text means the same is only tested.
 
-#[cfg(feature = "std")]
+#[cfg(feature = "programs")]
 pub(crate) mod arguments;
-#[cfg(feature = "std")]
+#[cfg(feature = "programs")]
 pub(crate) mod calls;
-#[cfg(feature = "std")]
+#[cfg(feature = "programs")]
 pub(crate) mod input;
-#[cfg(feature = "std")]
+#[cfg(feature = "programs")]
 pub(crate) mod listing;
 pub mod literal;
-#[cfg(feature = "std")]
+#[cfg(feature = "programs")]
 pub(crate) mod numbers;
-#[cfg(feature = "std")]
+#[cfg(feature = "programs")]
 pub(crate) mod report_lines;
-#[cfg(feature = "std")]
+#[cfg(feature = "programs")]
 pub mod run;
-#[cfg(feature = "std")]
+#[cfg(feature = "programs")]
 pub(crate) mod task;
-#[cfg(feature = "std")]
+#[cfg(feature = "programs")]
 pub mod verdict;
-#[cfg(feature = "std")]
+#[cfg(feature = "programs")]
 pub use listing::put_quoted;
-#[cfg(feature = "std")]
+#[cfg(feature = "programs")]
 pub use numbers::put_span;
-#[cfg(feature = "std")]
+#[cfg(feature = "programs")]
 pub use report_lines::{has_entries, report_for};
-#[cfg(feature = "std")]
+#[cfg(feature = "programs")]
 pub use task::{task_of, Task};

@@ -12,7 +12,6 @@ use crate::shim::prelude::*;
 
 /// Returns the report on the arguments that are used if these are given, or a report without
 /// entries for `None`.
-#[inline]
 pub fn report_for<'a>(
     all_uses: &Uses<'a>,
     arguments: Option<GivenArguments<'a>>,
@@ -32,7 +31,6 @@ pub fn report_for<'a>(
 }
 
 /// Returns whether a report has an entry.
-#[inline]
 pub fn has_entries(report: &Report<'_>) -> bool {
     report.missing_index.len() > 0
         || report.missing_name.len() > 0
@@ -51,7 +49,6 @@ fn put_numbers(out: &mut String, label: &str, numbers: &[usize]) -> Result<(), A
 }
 
 /// Adds the line of a name, which begins with `label`.
-#[inline]
 fn put_name(out: &mut String, label: &str, name: &str) -> Result<(), AllocError> {
     out.try_push_str(label)?;
     put_quoted(out, name)?;
@@ -60,7 +57,6 @@ fn put_name(out: &mut String, label: &str, name: &str) -> Result<(), AllocError>
 }
 
 /// Adds a line for each name, which begins with `label`.
-#[inline]
 fn put_names(out: &mut String, label: &str, names: &[&str]) -> Result<(), AllocError> {
     for name in names {
         put_name(out, label, name)?;
@@ -69,7 +65,6 @@ fn put_names(out: &mut String, label: &str, names: &[&str]) -> Result<(), AllocE
 }
 
 /// Adds a line for each entry of a report.
-#[inline]
 pub fn put_report(out: &mut String, report: &Report<'_>) -> Result<(), AllocError> {
     put_numbers(out, "missing index ", report.missing_index.as_slice())?;
     put_names(out, "missing name ", report.missing_name.as_slice())?;

@@ -18,7 +18,6 @@ pub struct Task<'a> {
 }
 
 /// Returns the mode that a word names, or `None` if it names none.
-#[inline]
 fn mode_named(word: &str) -> Option<ParseMode> {
     if word == "format" {
         Some(ParseMode::Format)
@@ -34,7 +33,6 @@ fn mode_named(word: &str) -> Option<ParseMode> {
 }
 
 /// Returns the task with the mode that `word` names, or `None` if it names none.
-#[inline]
 fn task_in<'a>(
     word: &str,
     is_literal: bool,
@@ -50,14 +48,12 @@ fn task_in<'a>(
 
 /// Returns the task with the mode that `word` names and the list of arguments in `list`, or `None`
 /// if `word` names no mode or `list` is not a list of arguments.
-#[inline]
 fn task_with<'a>(word: &str, is_literal: bool, list: &'a str) -> Option<Task<'a>> {
     let arguments = given_arguments(list)?;
     task_in(word, is_literal, Some(arguments))
 }
 
 /// Returns the task that the command-line arguments give, or `None` if they are invalid.
-#[inline]
 pub fn task_of(words: &[String]) -> Option<Task<'_>> {
     match words {
         [word] => task_in(word.as_str(), false, None),

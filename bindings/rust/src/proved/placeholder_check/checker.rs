@@ -25,7 +25,6 @@ pub struct Report<'a> {
 
 /// Compares the arguments that are used with those that are given, as [`check`] does with those
 /// that pieces use.
-#[inline]
 pub fn check_uses<'a>(
     uses: &Uses<'a>,
     positional: usize,
@@ -52,7 +51,6 @@ pub fn check_uses<'a>(
 /// The position, the width and the precision of a placeholder can each use an argument, as in the
 /// documentation of `std::fmt`; but here an index never refers to an argument that is given by
 /// name.
-#[inline]
 pub fn check<'a>(
     pieces: &[Piece<'a>],
     positional: usize,

@@ -23,7 +23,6 @@ pub struct Indices {
 }
 
 /// Returns the empty set. Allocates nothing.
-#[inline]
 pub fn no_indices() -> Indices {
     Indices {
         marks: Vec::new(),
@@ -33,7 +32,6 @@ pub fn no_indices() -> Indices {
 }
 
 /// Returns whether a set has an index.
-#[inline]
 pub fn has_index(set: &Indices, index: usize) -> bool {
     match set.marks.get(index) {
         Some(true) => true,
@@ -42,7 +40,6 @@ pub fn has_index(set: &Indices, index: usize) -> bool {
 }
 
 /// Marks an index that is not far from those in the list.
-#[inline]
 fn mark(marks: &mut Vec<bool>, index: usize) -> Result<(), AllocError> {
     for _ in marks.len()..index {
         marks.try_push(false)?;
@@ -56,7 +53,6 @@ fn mark(marks: &mut Vec<bool>, index: usize) -> Result<(), AllocError> {
 }
 
 /// Adds an index to a set.
-#[inline]
 pub fn insert_index(set: &mut Indices, index: usize) -> Result<(), AllocError> {
     let is_new = if index.saturating_sub(set.marks.len()) >= GAP {
         set.others.insert_in(index)?
@@ -73,7 +69,6 @@ pub fn insert_index(set: &mut Indices, index: usize) -> Result<(), AllocError> {
 }
 
 /// Appends the numbers of a set that are at least `first` to a list, in ascending order.
-#[inline]
 fn push_from(list: &mut Vec<usize>, set: &BTreeSet<usize>, first: usize) -> Result<(), AllocError> {
     for n in set.iter() {
         if *n >= first {
@@ -84,7 +79,6 @@ fn push_from(list: &mut Vec<usize>, set: &BTreeSet<usize>, first: usize) -> Resu
 }
 
 /// Returns the indices of a set from `first` up to `end`, in ascending order.
-#[inline]
 fn members_between(set: &Indices, first: usize, end: usize) -> Result<Vec<usize>, AllocError> {
     let mut members = Vec::new();
     for n in first..end {
@@ -96,7 +90,6 @@ fn members_between(set: &Indices, first: usize, end: usize) -> Result<Vec<usize>
 }
 
 /// Returns the indices of a set that are at least `first`, in ascending order.
-#[inline]
 pub fn members_from(set: &Indices, first: usize) -> Result<Vec<usize>, AllocError> {
     let end = set.marks.len();
     let mut members = members_between(set, first, end)?;
@@ -107,7 +100,6 @@ pub fn members_from(set: &Indices, first: usize) -> Result<Vec<usize>, AllocErro
 /// Returns the indices below `end` that are not in a set, in ascending order. Allocates room for
 /// `room` indices first, since `end` may be the greatest `usize`, and filling the memory before the
 /// failure would take minutes.
-#[inline]
 pub fn missing_indices(set: &Indices, end: usize, room: usize) -> Result<Vec<usize>, AllocError> {
     let mut missing_indices = Vec::made_for(room)?;
     for n in 0..end {

@@ -9,8 +9,8 @@ pub(crate) mod indices;
 pub(crate) mod names;
 pub(crate) mod uses;
 
-#[cfg(feature = "std")]
+#[cfg(feature = "programs")]
 pub use checker::check_uses;
 pub use checker::{check, Report};
-#[cfg(feature = "std")]
+#[cfg(feature = "programs")]
 pub use uses::{uses_of, Uses};

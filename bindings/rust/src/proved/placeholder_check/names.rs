@@ -20,7 +20,6 @@ pub struct Names<'a> {
 }
 
 /// Returns the empty set. Allocates nothing.
-#[inline]
 pub fn no_names<'a>() -> Names<'a> {
     Names {
         list: Vec::new(),
@@ -35,7 +34,6 @@ fn is_same(a: &str, b: &str) -> bool {
 }
 
 /// Returns whether a name is among the first [`SCAN_LIMIT`] of a list.
-#[inline]
 fn is_early(names: &[&str], name: &str) -> bool {
     for i in 0..names.len().min(SCAN_LIMIT) {
         if is_same(name, names[i]) {
@@ -79,7 +77,6 @@ pub fn insert_name<'a>(names: &mut Names<'a>, name: &'a str) -> Result<(), Alloc
 }
 
 /// Returns the names of a list after the first [`SCAN_LIMIT`].
-#[inline]
 pub fn later_names<'a>(names: &[&'a str]) -> Result<BTreeSet<&'a str>, AllocError> {
     let mut later_set = BTreeSet::new();
     for i in SCAN_LIMIT..names.len() {
@@ -90,7 +87,6 @@ pub fn later_names<'a>(names: &[&'a str]) -> Result<BTreeSet<&'a str>, AllocErro
 
 /// Returns the names of a list that are not among others, in their order; `later_set` has those of
 /// the others after the first [`SCAN_LIMIT`].
-#[inline]
 pub fn missing_names<'a>(
     names: &[&'a str],
     others: &[&'a str],
@@ -107,7 +103,6 @@ pub fn missing_names<'a>(
 
 /// Returns the names of a list that are not in a set, each once, in the order of their first
 /// entries.
-#[inline]
 pub fn unused_names<'a>(names: &[&'a str], uses: &Names<'a>) -> Result<Vec<&'a str>, AllocError> {
     let mut unused_set = no_names();
     for name in names {

@@ -50,7 +50,6 @@ fn add_name<'a>(uses: &mut Uses<'a>, name: &'a str) -> Result<(), AllocError> {
 }
 
 /// Adds the argument that a position uses.
-#[inline]
 fn add_position<'a>(uses: &mut Uses<'a>, position: &Position<'a>) -> Result<(), AllocError> {
     match position {
         Position::ArgumentImplicitlyIs(n) | Position::ArgumentIs(n) => add_index(uses, *n),
@@ -59,7 +58,6 @@ fn add_position<'a>(uses: &mut Uses<'a>, position: &Position<'a>) -> Result<(), 
 }
 
 /// Adds the argument that a width or a precision uses, if it uses one.
-#[inline]
 fn add_count<'a>(uses: &mut Uses<'a>, count: &Count<'a>) -> Result<(), AllocError> {
     match count {
         Count::CountIsParam(n) | Count::CountIsStar(n) => add_index(uses, *n),
@@ -70,7 +68,6 @@ fn add_count<'a>(uses: &mut Uses<'a>, count: &Count<'a>) -> Result<(), AllocErro
 
 /// Adds the arguments that a placeholder uses: by its position, its width and its precision, in
 /// this order.
-#[inline]
 fn add_argument<'a>(uses: &mut Uses<'a>, argument: &Argument<'a>) -> Result<(), AllocError> {
     add_position(uses, &argument.position)?;
     add_count(uses, &argument.format.width)?;
@@ -79,7 +76,6 @@ fn add_argument<'a>(uses: &mut Uses<'a>, argument: &Argument<'a>) -> Result<(), 
 }
 
 /// Adds the arguments that a piece uses.
-#[inline]
 fn add_piece<'a>(uses: &mut Uses<'a>, piece: &Piece<'a>) -> Result<(), AllocError> {
     match piece {
         Piece::Lit(_) => Ok(()),
@@ -88,7 +84,6 @@ fn add_piece<'a>(uses: &mut Uses<'a>, piece: &Piece<'a>) -> Result<(), AllocErro
 }
 
 /// Returns the arguments that pieces use.
-#[inline]
 pub fn uses_of<'a>(pieces: &[Piece<'a>]) -> Result<Uses<'a>, AllocError> {
     let mut uses = Uses::new();
     for piece in pieces {

@@ -7,6 +7,7 @@ use core::ops::Range;
 
 /// The kind of a token. The names are those of `rustc_lexer` where it has one, and else those of
 /// the Rust Reference.
+#[non_exhaustive]
 #[derive(Clone, Copy, Debug, Eq, PartialEq, Hash)]
 pub enum Kind {
     /// White space: Unicode's `Pattern_White_Space`.

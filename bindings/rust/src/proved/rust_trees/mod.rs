@@ -14,7 +14,7 @@ pub(crate) mod source;
 pub use balance::{Balance, BreakKind, FileBreak};
 pub use leaves::{Token, Tokens};
 pub use matching::DelimiterBreak;
-#[cfg(feature = "std")]
+#[cfg(feature = "programs")]
 pub use places::place_at;
 pub use places::{Place, Places};
 pub use sides::{is_opening, Delimiter, Side};

@@ -10,6 +10,7 @@ use core::ops::Range;
 
 /// A fault of an input as plain data, of which a parser makes an error. The ranges are byte ranges
 /// of the source.
+#[non_exhaustive]
 #[derive(Clone, Debug, Eq, PartialEq)]
 pub enum Fault<'input> {
     /// A closing brace that closes nothing.

@@ -28,6 +28,7 @@ pub(crate) mod counts;
 pub(crate) mod cursor;
 pub(crate) mod error_list;
 pub(crate) mod escapes;
+#[cfg(feature = "lint")]
 pub(crate) mod fault_ids;
 pub(crate) mod faults;
 pub mod laws;
@@ -42,13 +43,17 @@ pub(crate) mod source;
 pub(crate) mod specification;
 pub(crate) mod types;
 
+#[cfg(feature = "lint")]
 #[doc(hidden)]
 pub use blocks::{front_width, Stops};
-#[cfg(feature = "std")]
+#[cfg(feature = "programs")]
 #[doc(hidden)]
 pub use escapes::{put_all_written, put_written};
+#[cfg(feature = "lint")]
 pub use faults::Fault;
 pub use types::{
-    Alignment, Argument, Count, DebugHex, FormatSpec, NextPiece, ParseError, ParseMode, Piece,
-    PieceKind, Position, Sign, Suggestion,
+    Alignment, Argument, Count, DebugHex, FormatSpec, ParseError, ParseMode, Piece, Position, Sign,
+    Suggestion,
 };
+#[cfg(feature = "lint")]
+pub use types::{NextPiece, PieceKind};

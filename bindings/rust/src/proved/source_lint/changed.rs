@@ -13,7 +13,6 @@ use crate::shim::prelude::*;
 
 /// Reads the calls of a file, part by part, where these texts stand between the parts. Returns
 /// `None` if others do, and `Err` if an allocation fails.
-#[inline]
 fn read_parts(
     file: File<'_, '_>,
     table: &Table<'_>,
@@ -41,7 +40,6 @@ fn read_parts(
 
 /// Reads a source file as [`file_faults`] does, where these texts stand between its parts. Returns
 /// `None` if others do, and `Err` if an allocation fails.
-#[inline]
 pub fn changed_file_faults(
     text: &str,
     options: &Options<'_>,

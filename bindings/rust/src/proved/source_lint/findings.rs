@@ -23,7 +23,6 @@ fn is_text_fault(fault: &CallFault<'_>) -> bool {
 }
 
 /// Returns whether one of these edits copies source.
-#[inline]
 fn copies(edits: &[CallEdit]) -> bool {
     for edit in edits {
         if edit.copied_spot.is_some() {
@@ -34,7 +33,6 @@ fn copies(edits: &[CallEdit]) -> bool {
 }
 
 /// Returns the help that counts where the number of arguments is known, and where it is not.
-#[inline]
 fn counted_help(help: Option<CallHelp>, is_whole: bool) -> Option<CallHelp> {
     match help {
         None => None,
@@ -49,7 +47,6 @@ fn counted_help(help: Option<CallHelp>, is_whole: bool) -> Option<CallHelp> {
 }
 
 /// Returns the finding of a fault of a call, whose number of arguments is known or not.
-#[inline]
 fn finding<'c>(
     site: Site<'_, '_>,
     report: &CallReport<'c>,
@@ -75,7 +72,6 @@ fn finding<'c>(
 }
 
 /// Adds the finding of a fault of a call, unless only that of its string counts.
-#[inline]
 fn put_finding<'c>(
     findings: &mut Vec<Finding>,
     site: Site<'_, '_>,
@@ -90,7 +86,6 @@ fn put_finding<'c>(
 }
 
 /// Adds the findings of the faults of a call, or only that of its string.
-#[inline]
 pub fn put_findings<'c>(
     findings: &mut Vec<Finding>,
     site: Site<'_, '_>,

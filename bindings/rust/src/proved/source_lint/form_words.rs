@@ -13,7 +13,6 @@ use crate::shim::prelude::*;
 use core::ops::Range;
 
 /// Returns the id of what is wrong, in kebab case.
-#[inline]
 fn form_id(form: Form<'_>) -> &'static str {
     match form {
         Form::NoString => "missing-format-string",
@@ -24,7 +23,6 @@ fn form_id(form: Form<'_>) -> &'static str {
 }
 
 /// Adds a token that rustc found, in its words.
-#[inline]
 fn put_operator(out: &mut String, operator: Operator<'_>) -> Result<(), AllocError> {
     out.try_push_str(kind_word(operator.first.text))?;
     out.try_push_str("`")?;
@@ -36,7 +34,6 @@ fn put_operator(out: &mut String, operator: Operator<'_>) -> Result<(), AllocErr
 }
 
 /// Returns the tokens that rustc expects, in its words, up to the one that it found.
-#[inline]
 fn expected_words(expected: ExpectedTokens) -> &'static str {
     match expected {
         ExpectedTokens::Comma => "expected `,`, found ",
@@ -66,7 +63,6 @@ fn end_words(is_last: bool) -> &'static str {
 }
 
 /// Adds the title.
-#[inline]
 fn put_title(out: &mut String, form: Form<'_>) -> Result<(), AllocError> {
     match form {
         Form::NoString => out.try_push_str("requires at least a format string argument")?,
@@ -85,7 +81,6 @@ fn put_title(out: &mut String, form: Form<'_>) -> Result<(), AllocError> {
 }
 
 /// Returns the label of a token where rustc expects others.
-#[inline]
 fn expected_label(expected: ExpectedTokens) -> &'static str {
     match expected {
         ExpectedTokens::Comma => "expected `,`",
@@ -96,7 +91,6 @@ fn expected_label(expected: ExpectedTokens) -> &'static str {
 }
 
 /// Returns the text of the primary label.
-#[inline]
 fn form_label(form: Form<'_>) -> &'static str {
     match form {
         Form::NoString | Form::NoLiteral { .. } => "",
@@ -106,7 +100,6 @@ fn form_label(form: Form<'_>) -> &'static str {
 }
 
 /// Returns the bytes of the argument with this index, or none if there is no such argument.
-#[inline]
 fn argument_range(tokens: &[Token<'_>], arguments: &[Argument], index: usize) -> Range<usize> {
     match arguments.get(index) {
         Some(argument) => tokens_range(tokens, argument.start, argument.end),
@@ -116,7 +109,6 @@ fn argument_range(tokens: &[Token<'_>], arguments: &[Argument], index: usize) ->
 
 /// Returns the bytes of the token after the argument with this index, or the end of that argument
 /// if it is the last one. Returns no bytes if there is no such argument.
-#[inline]
 fn range_after(
     tokens: &[Token<'_>],
     arguments: &[Argument],
@@ -137,7 +129,6 @@ fn range_after(
 }
 
 /// Returns the bytes of a token that rustc found.
-#[inline]
 fn found_range(operator: Operator<'_>) -> Range<usize> {
     let first = operator
         .first
@@ -148,7 +139,6 @@ fn found_range(operator: Operator<'_>) -> Range<usize> {
 }
 
 /// Returns the bytes that are wrong.
-#[inline]
 fn form_range(
     text: &str,
     tokens: &[Token<'_>],
@@ -179,7 +169,6 @@ fn bytes_label() -> &'static str {
 }
 
 /// Returns whether a byte string literal stands where the format string should.
-#[inline]
 fn has_bytes(form: Form<'_>) -> bool {
     match form {
         Form::NoLiteral { is_bytes, .. } => is_bytes,
@@ -189,7 +178,6 @@ fn has_bytes(form: Form<'_>) -> bool {
 
 /// Returns how many arguments stand after the expression in whose place a literal is missing, or
 /// `None` if none is.
-#[inline]
 fn lacks_literal(form: Form<'_>) -> Option<usize> {
     match form {
         Form::NoLiteral {
@@ -207,7 +195,6 @@ fn lacks_literal(form: Form<'_>) -> Option<usize> {
 }
 
 /// Adds a label.
-#[inline]
 fn push_label(
     labels: &mut Vec<Label>,
     range: Range<usize>,
@@ -224,7 +211,6 @@ fn push_label(
 }
 
 /// Returns the labels of what is wrong with these bytes.
-#[inline]
 fn form_labels(text: &str, span: &Range<usize>, form: Form<'_>) -> Result<Vec<Label>, AllocError> {
     let mut labels = Vec::new();
     push_label(&mut labels, span.start..span.end, true, form_label(form))?;
@@ -236,7 +222,6 @@ fn form_labels(text: &str, span: &Range<usize>, form: Form<'_>) -> Result<Vec<La
 }
 
 /// Adds this many placeholders, each after a space.
-#[inline]
 fn put_placeholders(out: &mut String, count: usize) -> Result<(), AllocError> {
     let mut countdown = count;
     while countdown > 0 {
@@ -247,7 +232,6 @@ fn put_placeholders(out: &mut String, count: usize) -> Result<(), AllocError> {
 }
 
 /// Returns the format string for an argument and so many others, with the comma after it.
-#[inline]
 fn literal_for(other_count: usize) -> Result<String, AllocError> {
     let mut text = String::made_from("\"{}")?;
     put_placeholders(&mut text, other_count)?;
@@ -256,7 +240,6 @@ fn literal_for(other_count: usize) -> Result<String, AllocError> {
 }
 
 /// Returns the help, or `None` if there is none that is no label.
-#[inline]
 fn form_help(text: &str, span: &Range<usize>, form: Form<'_>) -> Result<Option<Help>, AllocError> {
     let Some(other_count) = lacks_literal(form) else {
         return Ok(None);
@@ -273,7 +256,6 @@ fn form_help(text: &str, span: &Range<usize>, form: Form<'_>) -> Result<Option<H
 }
 
 /// Returns the finding of what is wrong with the arguments of a call.
-#[inline]
 fn form_finding(text: &str, span: Range<usize>, form: Form<'_>) -> Result<Finding, AllocError> {
     let mut title = String::new();
     put_title(&mut title, form)?;
@@ -291,7 +273,6 @@ fn form_finding(text: &str, span: Range<usize>, form: Form<'_>) -> Result<Findin
 }
 
 /// Adds the finding of what is wrong with the arguments of a call, if anything is.
-#[inline]
 pub fn put_form(
     findings: &mut Vec<Finding>,
     text: &str,

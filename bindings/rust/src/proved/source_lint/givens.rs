@@ -12,7 +12,6 @@ use crate::shim::alloc::AllocError;
 use crate::shim::prelude::*;
 
 /// Returns whether a word is an expression by itself, and no variable.
-#[inline]
 fn is_keyword(word: &str) -> bool {
     word == "_"
         || word == "break"
@@ -24,7 +23,6 @@ fn is_keyword(word: &str) -> bool {
 }
 
 /// Returns the variable that a token is, without `r#`, or `None` if it is none.
-#[inline]
 fn variable<'a>(token: &Token<'a>) -> Option<&'a str> {
     match token.kind {
         Kind::Ident => {
@@ -40,7 +38,6 @@ fn variable<'a>(token: &Token<'a>) -> Option<&'a str> {
 }
 
 /// Returns the variable that an argument without a name is, or `None` if it is anything else.
-#[inline]
 fn variable_of<'a>(tokens: &[Token<'a>], argument: &Argument) -> Option<&'a str> {
     if argument.is_named || argument.start >= argument.end || argument.end - argument.start != 1 {
         return None;
@@ -52,7 +49,6 @@ fn variable_of<'a>(tokens: &[Token<'a>], argument: &Argument) -> Option<&'a str>
 }
 
 /// Returns an argument as placeholders refer to it.
-#[inline]
 fn format_argument<'a>(tokens: &[Token<'a>], argument: &Argument) -> FormatArgument<'a> {
     FormatArgument {
         name: name_of(tokens, argument),
@@ -61,7 +57,6 @@ fn format_argument<'a>(tokens: &[Token<'a>], argument: &Argument) -> FormatArgum
 }
 
 /// Returns arguments as placeholders refer to them.
-#[inline]
 pub fn givens<'a>(
     tokens: &[Token<'a>],
     arguments: &[Argument],

@@ -12,7 +12,6 @@ use crate::shim::prelude::*;
 use core::ops::Range;
 
 /// Returns the ranges of places of a call.
-#[inline]
 fn ranges(site: Site<'_, '_>, spots: &[Spot]) -> Result<Vec<Range<usize>>, AllocError> {
     let mut ranges = Vec::new();
     for spot in spots {
@@ -22,7 +21,6 @@ fn ranges(site: Site<'_, '_>, spots: &[Spot]) -> Result<Vec<Range<usize>>, Alloc
 }
 
 /// Returns notes of a call with the ranges that they show.
-#[inline]
 pub fn notes(site: Site<'_, '_>, notes: Vec<CallNote>) -> Result<Vec<Note>, AllocError> {
     let mut list = Vec::new();
     for note in notes {
@@ -36,7 +34,6 @@ pub fn notes(site: Site<'_, '_>, notes: Vec<CallNote>) -> Result<Vec<Note>, Allo
 }
 
 /// Appends the source of a place of a call, if there is one.
-#[inline]
 fn put_source(out: &mut String, site: Site<'_, '_>, spot: Option<Spot>) -> Result<(), AllocError> {
     if let Some(spot) = spot {
         let range = spot_range(site, spot);
@@ -47,7 +44,6 @@ fn put_source(out: &mut String, site: Site<'_, '_>, spot: Option<Spot>) -> Resul
 
 /// Returns the new text of an edit, from that before the source that it copies, that source and the
 /// rest.
-#[inline]
 fn edit_text(site: Site<'_, '_>, edit: CallEdit) -> Result<String, AllocError> {
     let mut text = edit.text;
     put_source(&mut text, site, edit.copied_spot)?;
@@ -56,7 +52,6 @@ fn edit_text(site: Site<'_, '_>, edit: CallEdit) -> Result<String, AllocError> {
 }
 
 /// Returns edits of a call with their ranges.
-#[inline]
 fn edits(site: Site<'_, '_>, edits: Vec<CallEdit>) -> Result<Vec<Edit>, AllocError> {
     let mut list = Vec::new();
     for edit in edits {
@@ -68,7 +63,6 @@ fn edits(site: Site<'_, '_>, edits: Vec<CallEdit>) -> Result<Vec<Edit>, AllocErr
 }
 
 /// Returns a help of a call with the ranges of its edits.
-#[inline]
 pub fn help(site: Site<'_, '_>, help: Option<CallHelp>) -> Result<Option<Help>, AllocError> {
     match help {
         None => Ok(None),

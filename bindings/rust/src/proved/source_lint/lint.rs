@@ -22,7 +22,6 @@ pub struct Readings {
 
 /// Reads calls of a part of a file, one after the other, and adds how much of each is read and its
 /// findings.
-#[inline]
 pub fn read_calls<'a>(
     readings: &mut Readings,
     file: File<'_, 'a>,
@@ -39,7 +38,6 @@ pub fn read_calls<'a>(
 }
 
 /// Reads the calls of a file, part by part, and adds all its tokens to `balance`.
-#[inline]
 fn read_file(
     file: File<'_, '_>,
     table: &Table<'_>,
@@ -59,7 +57,6 @@ fn read_file(
 }
 
 /// Adds the findings in the texts of the attributes of a file.
-#[inline]
 fn put_attributes(findings: &mut Vec<Finding>, text: &str) -> Result<(), AllocError> {
     if !text.contains("on_unimplemented") {
         return Ok(());
@@ -71,7 +68,6 @@ fn put_attributes(findings: &mut Vec<Finding>, text: &str) -> Result<(), AllocEr
 
 /// Returns the report on a file whose calls have these readings, and that breaks there or not: the
 /// findings in its attributes follow those in its calls.
-#[inline]
 pub(crate) fn report_with(
     text: &str,
     readings: Readings,
@@ -97,7 +93,6 @@ pub fn report_on(text: &str, readings: Readings, balance: Balance) -> Result<Rep
 /// Reads a source file, and returns the faults of its calls of macros that take a format string or
 /// templates of assembly, and then those of the texts of its attributes.
 /// Lines may end with LF or CRLF, and a byte order mark may stand at the start.
-#[inline]
 pub fn file_faults(text: &str, options: &Options<'_>) -> Result<Report, AllocError> {
     let names = macro_names(text)?;
     let file = File {

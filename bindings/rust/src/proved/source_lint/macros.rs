@@ -24,13 +24,11 @@ pub struct File<'s, 'a> {
 }
 
 /// Returns whether a token is the word `macro_rules`.
-#[inline]
 fn is_macro_rules(token: &Token<'_>) -> bool {
     matches!(token.kind, Kind::Ident) && token.text == "macro_rules"
 }
 
 /// Returns whether two tokens, one after the other, are `macro_rules` and `!`.
-#[inline]
 fn begins_definition(word: Option<Token<'_>>, bang: Option<Token<'_>>) -> bool {
     match (word, bang) {
         (Some(word), Some(bang)) => is_macro_rules(&word) && is_mark_of(&bang, b'!'),
@@ -39,7 +37,6 @@ fn begins_definition(word: Option<Token<'_>>, bang: Option<Token<'_>>) -> bool {
 }
 
 /// Adds the name of the macro that a token defines after two others, if it does.
-#[inline]
 fn put_definition<'a>(
     names: &mut BTreeSet<&'a [u8]>,
     previous: Option<Token<'a>>,
@@ -53,7 +50,6 @@ fn put_definition<'a>(
 }
 
 /// Returns the names of the macros that a file defines by `macro_rules!`, without `r#`.
-#[inline]
 pub fn macro_names<'a>(text: &'a str) -> Result<BTreeSet<&'a [u8]>, AllocError> {
     let mut names = BTreeSet::new();
     if !text.contains("macro_rules") {
@@ -77,7 +73,6 @@ fn is_defined<'a>(names: &BTreeSet<&'a [u8]>, word: &'a [u8]) -> bool {
 }
 
 /// Returns the name of a call, without `r#`.
-#[inline]
 pub fn name_at<'a>(tokens: &[Token<'a>], name: usize) -> &'a [u8] {
     match token_at(tokens, name) {
         Some(token) => word(&token),
@@ -86,7 +81,6 @@ pub fn name_at<'a>(tokens: &[Token<'a>], name: usize) -> &'a [u8] {
 }
 
 /// Returns the offset of the name of a call in its file.
-#[inline]
 fn offset_at(tokens: &[Token<'_>], name: usize) -> usize {
     match token_at(tokens, name) {
         Some(token) => token.start,
@@ -103,7 +97,6 @@ fn is_log(rule: Rule, name: &[u8]) -> bool {
 
 /// Returns the reading of a call whose macro is another one than that of the table, or `None` if it
 /// is that one, as far as the file shows.
-#[inline]
 pub fn other_macro<'a>(
     file: File<'_, 'a>,
     tokens: &[Token<'a>],

@@ -21,7 +21,6 @@ use crate::shim::alloc::AllocError;
 use crate::shim::prelude::*;
 
 /// Returns arguments as placeholders refer to them, or none if their number is not known.
-#[inline]
 fn counted_givens<'a>(
     tokens: &[Token<'a>],
     arguments: &[Argument],
@@ -34,7 +33,6 @@ fn counted_givens<'a>(
 }
 
 /// Checks a call with this format string and these arguments, and adds its findings.
-#[inline]
 fn check_string<'c>(
     findings: &mut Vec<Finding>,
     site: Site<'_, '_>,
@@ -49,7 +47,6 @@ fn check_string<'c>(
 
 /// Reads the format string of a call, which is the literal of the site, with the arguments after
 /// it, and adds the findings.
-#[inline]
 fn read_string(
     findings: &mut Vec<Finding>,
     site: Site<'_, '_>,
@@ -77,7 +74,6 @@ fn read_string(
 
 /// Returns whether the format string of a macro captures variables. `unreachable!` of the standard
 /// library puts it into another text before the edition 2021, where it captures none.
-#[inline]
 pub fn captures_variables(rule: Rule, name: &[u8], is_from_2021: bool) -> bool {
     match rule {
         Rule::IndexByEdition(_) => is_from_2021 || name != b"unreachable".as_slice(),
@@ -86,7 +82,6 @@ pub fn captures_variables(rule: Rule, name: &[u8], is_from_2021: bool) -> bool {
 }
 
 /// Returns the argument of an index, or `None` if there is none.
-#[inline]
 pub fn argument_at(arguments: &[Argument], index: usize) -> Option<Argument> {
     if index < arguments.len() {
         Some(arguments[index])
@@ -103,7 +98,6 @@ pub fn ends_early(rule: Rule) -> bool {
 }
 
 /// Returns the arguments that start before a token, of which the last ends there at the latest.
-#[inline]
 pub fn arguments_before(arguments: &[Argument], end: usize) -> Result<Vec<Argument>, AllocError> {
     let mut list = Vec::new();
     for argument in arguments {
@@ -121,7 +115,6 @@ pub fn arguments_before(arguments: &[Argument], end: usize) -> Result<Vec<Argume
 
 /// Reads a call with this literal as its format string and these arguments after it, and adds its
 /// findings.
-#[inline]
 fn read_with(
     findings: &mut Vec<Finding>,
     file: File<'_, '_>,
@@ -155,7 +148,6 @@ fn read_with(
 }
 
 /// Reads a call whose format string begins the argument of this index, and adds its findings.
-#[inline]
 fn read_at(
     findings: &mut Vec<Finding>,
     file: File<'_, '_>,
@@ -196,7 +188,6 @@ fn read_at(
 
 /// Reads a call whose format string is the argument of this index, or whose templates begin with
 /// it, and adds its findings.
-#[inline]
 fn read_one<'a>(
     findings: &mut Vec<Finding>,
     file: File<'_, 'a>,
@@ -232,13 +223,11 @@ fn has_empty(arguments: &[Argument]) -> bool {
 
 /// Returns whether the arguments of a macro with this rule are expressions, up to the last one:
 /// those of tracing and of slog have forms of their own.
-#[inline]
 fn are_expressions(rule: Rule) -> bool {
     matches!(rule, Rule::Index(_) | Rule::IndexByEdition(_))
 }
 
 /// Returns whether an operator lacks an operand in one of these arguments.
-#[inline]
 fn lack_operand(part: &Part<'_>, arguments: &[Argument]) -> bool {
     for argument in arguments {
         if lacks_operand(tokens_of(part.tokens(), argument)) {
@@ -250,7 +239,6 @@ fn lack_operand(part: &Part<'_>, arguments: &[Argument]) -> bool {
 
 /// Returns whether an operator lacks an operand in one of the arguments of a macro with this rule,
 /// and no variable of a macro stands in them.
-#[inline]
 fn lack_expression(part: &Part<'_>, rule: Rule, arguments: &[Argument]) -> bool {
     are_expressions(rule) && lack_operand(part, arguments) && !have_variables(part, arguments)
 }
@@ -263,7 +251,6 @@ fn has_expressions(rule: Rule) -> bool {
 
 /// Returns the index of the argument that is the format string of a call, or the reading of the
 /// call if none is read.
-#[inline]
 pub fn index_or(
     file: File<'_, '_>,
     part: &Part<'_>,
@@ -283,7 +270,6 @@ pub fn index_or(
 }
 
 /// Reads a call, and adds its findings.
-#[inline]
 pub fn read_call<'a>(
     findings: &mut Vec<Finding>,
     file: File<'_, 'a>,

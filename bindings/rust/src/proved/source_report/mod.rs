@@ -11,5 +11,5 @@ pub(crate) mod suggestions;
 pub use edited::mend_each;
 pub use report::{CallReading, Edit, Finding, Help, Label, Note, Options, Report};
 pub use suggestions::{are_after, edits_of};
-#[cfg(feature = "std")]
+#[cfg(feature = "programs")]
 pub use suggestions::{is_applicable, suggestion_of, LabelSuggestion};

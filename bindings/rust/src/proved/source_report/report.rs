@@ -81,6 +81,7 @@ pub struct Help {
 }
 
 /// A fault of a call, in rustc's words.
+#[non_exhaustive]
 #[derive(Clone, Debug, Eq, PartialEq)]
 pub struct Finding {
     /// Whether it is a warning. Any other fault is an error.
@@ -100,6 +101,7 @@ pub struct Finding {
 }
 
 /// The readings of the calls of a file, and the faults of these calls.
+#[non_exhaustive]
 #[derive(Clone, Debug, Eq, PartialEq)]
 pub struct Report {
     /// How much of each call of a macro of the table was read, in the order of their names.

@@ -10,7 +10,6 @@ use crate::shim::prelude::*;
 
 /// Returns the fault that is shown of those of a call up to `fault`, where `choice` is that of
 /// those before it.
-#[inline]
 fn choose<'a>(choice: Option<Fault<'a>>, fault: Fault<'a>) -> Option<Fault<'a>> {
     if choice.is_some() && !fault.is_front() {
         choice
@@ -21,7 +20,6 @@ fn choose<'a>(choice: Option<Fault<'a>>, fault: Fault<'a>) -> Option<Fault<'a>> 
 
 /// Returns of the faults of a call the one whose error comes first in the list of a parser, or
 /// `None` if there is none.
-#[inline]
 fn shown_fault(faults: Vec<Fault<'_>>) -> Option<Fault<'_>> {
     let mut choice = None;
     for fault in faults {
@@ -31,7 +29,6 @@ fn shown_fault(faults: Vec<Fault<'_>>) -> Option<Fault<'_>> {
 }
 
 /// Returns the faults of the first call of a parser that finds any.
-#[inline]
 fn first_faults<'a>(parser: &mut Parser<'a>) -> Result<Vec<Fault<'a>>, AllocError> {
     let mut argument = Argument::default();
     let mut faults = Vec::new();

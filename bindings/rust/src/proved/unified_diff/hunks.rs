@@ -19,7 +19,6 @@ struct Numbers {
 }
 
 /// Returns how many of these rows are in the old text, and how many in the new one.
-#[inline]
 fn count(rows: &[Row<'_>]) -> Numbers {
     let mut numbers = Numbers { old: 0, new: 0 };
     for row in rows {
@@ -41,7 +40,6 @@ fn is_shared(side: Side) -> bool {
 
 /// Returns how many rows are before the first one that is in one text alone, or `None` if all are
 /// in both.
-#[inline]
 fn first_change(rows: &[Row<'_>]) -> Option<usize> {
     for (index, row) in rows.iter().enumerate() {
         if !is_shared(row.side) {
@@ -52,7 +50,6 @@ fn first_change(rows: &[Row<'_>]) -> Option<usize> {
 }
 
 /// Returns how many of these rows, of which one of the first is a change, belong to one hunk.
-#[inline]
 fn hunk_len(rows: &[Row<'_>]) -> usize {
     let mut count = 0usize;
     let mut change_end = 0usize;
@@ -75,7 +72,6 @@ fn put_number(out: &mut String, number: usize) -> Result<(), AllocError> {
 
 /// Appends where the lines of a hunk are in a text: the number of the first line, and how many
 /// there are. Without a line the number is that of the line before.
-#[inline]
 fn put_extent(out: &mut String, lines_before: usize, count: usize) -> Result<(), AllocError> {
     let first = if count == 0 {
         lines_before
@@ -88,7 +84,6 @@ fn put_extent(out: &mut String, lines_before: usize, count: usize) -> Result<(),
 }
 
 /// Returns the first byte of a line of the diff.
-#[inline]
 fn sign(side: Side) -> &'static str {
     match side {
         Side::Both => " ",
@@ -98,7 +93,6 @@ fn sign(side: Side) -> &'static str {
 }
 
 /// Appends what follows a line without an LF, and nothing after one with it.
-#[inline]
 fn put_line_end(out: &mut String, line: &str) -> Result<(), AllocError> {
     if line.as_bytes().ends_with(b"\n") {
         return Ok(());
@@ -107,7 +101,6 @@ fn put_line_end(out: &mut String, line: &str) -> Result<(), AllocError> {
 }
 
 /// Appends a row.
-#[inline]
 fn put_row(out: &mut String, row: &Row<'_>) -> Result<(), AllocError> {
     out.try_push_str(sign(row.side))?;
     out.try_push_str(row.line)?;
@@ -115,7 +108,6 @@ fn put_row(out: &mut String, row: &Row<'_>) -> Result<(), AllocError> {
 }
 
 /// Appends rows.
-#[inline]
 fn put_rows(out: &mut String, rows: &[Row<'_>]) -> Result<(), AllocError> {
     for row in rows {
         put_row(out, row)?;
@@ -124,7 +116,6 @@ fn put_rows(out: &mut String, rows: &[Row<'_>]) -> Result<(), AllocError> {
 }
 
 /// Appends a hunk of rows, with these numbers of lines before it.
-#[inline]
 fn put_hunk(out: &mut String, numbers: Numbers, rows: &[Row<'_>]) -> Result<(), AllocError> {
     let row_numbers = count(rows);
     out.try_push_str("@@ -")?;
@@ -136,7 +127,6 @@ fn put_hunk(out: &mut String, numbers: Numbers, rows: &[Row<'_>]) -> Result<(), 
 }
 
 /// Returns the numbers of lines after rows.
-#[inline]
 fn numbers_after(numbers: Numbers, rows: &[Row<'_>]) -> Numbers {
     let row_numbers = count(rows);
     Numbers {
@@ -146,7 +136,6 @@ fn numbers_after(numbers: Numbers, rows: &[Row<'_>]) -> Numbers {
 }
 
 /// Appends all hunks of rows.
-#[inline]
 fn put_hunks(out: &mut String, rows: &[Row<'_>]) -> Result<(), AllocError> {
     let mut rest = rows;
     let mut numbers = Numbers { old: 0, new: 0 };
@@ -164,7 +153,6 @@ fn put_hunks(out: &mut String, rows: &[Row<'_>]) -> Result<(), AllocError> {
 }
 
 /// Returns whether a path is written in quotes.
-#[inline]
 fn wants_quotes(path: &str) -> bool {
     for c in path.chars() {
         if c == '"' || c == '\\' || c < ' ' || c == '\u{7f}' {
@@ -175,7 +163,6 @@ fn wants_quotes(path: &str) -> bool {
 }
 
 /// Appends a character of a path in quotes.
-#[inline]
 fn put_quoted(out: &mut String, c: char) -> Result<(), AllocError> {
     if c == '"' || c == '\\' {
         out.try_push('\\')?;
@@ -195,7 +182,6 @@ fn put_quoted(out: &mut String, c: char) -> Result<(), AllocError> {
 
 /// Appends a path, in quotes with escapes of C if it has a quote, a backslash or a control
 /// character, and with a tab after it if it has a space.
-#[inline]
 fn put_path(out: &mut String, path: &str) -> Result<(), AllocError> {
     if !wants_quotes(path) {
         out.try_push_str(path)?;
@@ -212,7 +198,6 @@ fn put_path(out: &mut String, path: &str) -> Result<(), AllocError> {
 }
 
 /// Appends the first two lines of a diff of the file with this path.
-#[inline]
 fn put_head(out: &mut String, path: &str) -> Result<(), AllocError> {
     let mut name = String::new();
     put_path(&mut name, path)?;
@@ -227,7 +212,6 @@ fn put_head(out: &mut String, path: &str) -> Result<(), AllocError> {
 /// Appends the difference of an old and a new text of the file with this path as a unified diff,
 /// with three lines of context, and nothing if they are the same. A line ends at an LF. The time
 /// grows with both lengths.
-#[inline]
 pub fn put_diff(out: &mut String, path: &str, old: &str, new: &str) -> Result<(), AllocError> {
     if old == new {
         return Ok(());

@@ -30,7 +30,6 @@ pub struct Row<'a> {
 }
 
 /// Returns the lines of a text, each with its LF; the last one may have none.
-#[inline]
 fn lines_of<'a>(text: &'a str) -> Result<Vec<&'a str>, AllocError> {
     let mut lines = Vec::new();
     for line in text.split_inclusive('\n') {
@@ -40,7 +39,6 @@ fn lines_of<'a>(text: &'a str) -> Result<Vec<&'a str>, AllocError> {
 }
 
 /// Returns how many lines at the ends of two texts are the same.
-#[inline]
 fn common_end(old: &[&str], new: &[&str]) -> usize {
     let mut count = 0;
     while count < old.len() && count < new.len() {
@@ -60,7 +58,6 @@ struct Pair {
 }
 
 /// Returns whether two texts have these lines, and they are the same.
-#[inline]
 fn is_common(old: &[&str], new: &[&str], pair: Pair) -> bool {
     match (old.get(pair.old - 1), new.get(pair.new - 1)) {
         (Some(line), Some(other)) => *line == *other,
@@ -70,7 +67,6 @@ fn is_common(old: &[&str], new: &[&str], pair: Pair) -> bool {
 
 /// Returns the first line that the starts of two texts have in common, in order of the sum of its
 /// numbers, which are at most eight.
-#[inline]
 fn next_common(old: &[&str], new: &[&str]) -> Option<Pair> {
     for sum in 2..=WINDOW + WINDOW {
         for number in 1..=WINDOW {
@@ -97,7 +93,6 @@ fn push_line<'a>(rows: &mut Vec<Row<'a>>, side: Side, line: &'a str) -> Result<(
 }
 
 /// Appends lines that are on this side.
-#[inline]
 fn push_lines<'a>(
     rows: &mut Vec<Row<'a>>,
     side: Side,
@@ -116,13 +111,11 @@ pub fn front<T>(items: &[T], n: usize) -> &[T] {
 }
 
 /// Returns the items after the first n, or none if there are no more.
-#[inline]
 pub fn rest_after<T>(items: &[T], n: usize) -> &[T] {
     items.get(n..).unwrap_or(&items[items.len()..])
 }
 
 /// Appends the lines of two texts up to one that they have in common.
-#[inline]
 fn push_pair<'a>(
     rows: &mut Vec<Row<'a>>,
     old: &[&'a str],
@@ -138,7 +131,6 @@ fn push_pair<'a>(
 }
 
 /// Appends the lines of two texts without a common end beside each other.
-#[inline]
 fn push_middle<'a>(
     rows: &mut Vec<Row<'a>>,
     old: &[&'a str],
@@ -158,7 +150,6 @@ fn push_middle<'a>(
 
 /// Returns the lines of two texts beside each other: those that are not in the new one alone are
 /// the old text, and those that are not in the old one alone the new text.
-#[inline]
 pub fn rows_of<'a>(old: &'a str, new: &'a str) -> Result<Vec<Row<'a>>, AllocError> {
     let old_lines = lines_of(old)?;
     let new_lines = lines_of(new)?;

@@ -1,6 +1,8 @@
 use Rattle.std.proofs.Common.{◌+◌, codes, decimal, string_bytes}
 use Rattle.drawn_faults.specs.Drawing.{arrow}
-use Rattle.drawn_lines.specs.Glyphs.{run, glyph_bytes}
+use Rattle.drawn_lines.specs.Glyphs.{run}
+use Rattle.shown_text.specs.Shown.{shown}
+use Rattle.shown_text.specs.declared.gate.Kind.TheVariants.{Line}
 use Rattle.drawn_lines.specs.Painting.{painted_text}
 use Rattle.drawn_lines.specs.declared.paint.Style.TheVariants.{Secondary}
 use Rattle.drawn_lines.proofs.Joining.{join8}
@@ -16,11 +18,11 @@ returns c =
       c.in_ok-push_str-2.ensures.bytes,
       c.in_ok-put_decimal.ensures,
       c.in_ok-push_str.ensures.bytes,
-      c.in_ok-put_glyphs.ensures.drawn,
+      c.in_ok-put_shown.ensures.written,
       c.in_ok-put_painted_text.ensures,
       c.in_ok-put_run.ensures,
     )
     (join8 (string_bytes c.args.out.now) (run f.gutter.columns 32)
-    (painted_text f.gutter.palette Secondary (codes "--> ")) (glyph_bytes f.picture.now.path.now)
+    (painted_text f.gutter.palette Secondary (codes "--> ")) (shown Line f.picture.now.path.now)
     (codes ":") (decimal (f.picture.now.line_start + c.args.at.line)) (codes ":")
     (decimal (c.args.at.chars + 1)) (codes "\n"))

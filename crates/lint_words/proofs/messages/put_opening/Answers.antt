@@ -5,7 +5,7 @@ pub returns : goal.returns
 returns c =
     rw (
       c.in_ok-push_str-2.ensures.bytes,
-      c.in_ok-put_glyphs.ensures.drawn,
+      c.in_ok-put_shown.ensures.written,
       c.in_ok-push_str.ensures.bytes,
     )
     (simp append_assoc)

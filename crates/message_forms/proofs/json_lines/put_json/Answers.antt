@@ -5,8 +5,8 @@ use Rattle.message_forms.specs.Texts.{json_text}
 use Rattle.message_forms.proofs.Texts.{value-after, whole}
 use Rattle.message_forms.proofs.json_lines.put_json.Goals as goal
 
-pub returns : goal.returns
-returns c =
+pub returns-clause-written : goal.returns-clause-written
+returns-clause-written c =
     let m = message_json c.args.message.now c.args.spans.now c.args.children.now
     c.args.rendered.now in
     let body : string_bytes c.put_below.new.out

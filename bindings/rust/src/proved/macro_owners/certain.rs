@@ -1,0 +1,138 @@
+//! Whose macro a name is in a file, and the rows of a table that are certain there.
+
+// Extracted from crates/macro_owners/src/certain.rt by tools/extract: not to be edited.
+// That source has the contracts, and is proved. That this text means the same is only tested.
+
+use crate::proved::format_calls::{Row, Table};
+use crate::proved::macro_owners::facts::Facts;
+use crate::proved::macro_owners::names::{
+    is_error_name, is_log_name, is_prelude, is_std_alone, kept_name,
+};
+use crate::shim::alloc::AllocError;
+use crate::shim::prelude::*;
+use alloc::collections::BTreeSet;
+
+/// Returns whether a set has a name.
+#[inline]
+fn has(names: &BTreeSet<&'static [u8]>, name: &'static [u8]) -> bool {
+    names.contains(&name)
+}
+
+/// Returns whether files give a name in another way than its owner, or every name.
+fn gives(facts: &Facts, name: &'static [u8]) -> bool {
+    has(&facts.given, name) || has(&facts.given, b"$")
+}
+
+/// Returns whether nothing in a package gives a name but its owner.
+fn is_free(package_facts: &Facts, file_facts: &Facts, name: &'static [u8]) -> bool {
+    !(gives(package_facts, name) || gives(file_facts, name) || has(&file_facts.spoiled, name))
+}
+
+/// Returns whether a file takes a name from what is called std, and may be something else.
+fn may_miss_std(package_facts: &Facts, file_facts: &Facts, name: &'static [u8]) -> bool {
+    let given = &package_facts.given;
+    let is_std_given = has(given, b"std") || has(given, b"core") || has(given, b"alloc");
+    is_std_given && (has(&package_facts.imported, name) || has(&file_facts.imported, name))
+}
+
+/// Returns whether a macro of the prelude of std is that one.
+fn is_std(package_facts: &Facts, file_facts: &Facts, name: &'static [u8]) -> bool {
+    let given = &package_facts.given;
+    let may_glob_give = is_std_alone(name) && has(given, b"no_std") && has(given, b"*");
+    is_free(package_facts, file_facts, name)
+        && !(may_miss_std(package_facts, file_facts, name) || may_glob_give)
+}
+
+/// Returns whether no glob gives a name in a file that its package imports.
+fn hides_globs(package_facts: &Facts, file_facts: &Facts, name: &'static [u8]) -> bool {
+    if !has(&package_facts.given, b"*") {
+        return true;
+    }
+    has(&file_facts.imported, name)
+        && !has(&file_facts.given, b"*")
+        && !has(&file_facts.given, b"crate")
+}
+
+/// Returns whether a file of a package uses all macros of a crate that owns a name.
+fn is_used(package_facts: &Facts, name: &'static [u8]) -> bool {
+    let used = &package_facts.used;
+    if is_log_name(name) {
+        has(used, b"log") || has(used, b"tracing") || has(used, b"slog")
+    } else if is_error_name(name) {
+        has(used, b"anyhow")
+            || has(used, b"eyre")
+            || has(used, b"color_eyre")
+            || has(used, b"failure")
+    } else {
+        false
+    }
+}
+
+/// Returns whether no file of a package gives the name of a crate that owns macros of logs or of
+/// errors.
+fn lacks_owners(package_facts: &Facts) -> bool {
+    let given = &package_facts.given;
+    !(has(given, b"std")
+        || has(given, b"core")
+        || has(given, b"alloc")
+        || has(given, b"log")
+        || has(given, b"tracing")
+        || has(given, b"slog")
+        || has(given, b"anyhow")
+        || has(given, b"eyre")
+        || has(given, b"color_eyre")
+        || has(given, b"failure"))
+}
+
+/// Returns whether a macro of a crate is its owner's.
+fn is_of_crate(package_facts: &Facts, file_facts: &Facts, name: &'static [u8]) -> bool {
+    if !is_free(package_facts, file_facts, name) || !lacks_owners(package_facts) {
+        return false;
+    }
+    is_used(package_facts, name)
+        || has(&package_facts.imported, name) && hides_globs(package_facts, file_facts, name)
+}
+
+/// Returns whether a call of this name in a file of a package is for certain one of the macro that
+/// tables mean. A name of which they know nothing is the user's.
+pub fn is_certain(package_facts: &Facts, file_facts: &Facts, name: &[u8]) -> bool {
+    let Some(name) = kept_name(name) else {
+        return true;
+    };
+    if is_prelude(name) {
+        is_std(package_facts, file_facts, name)
+    } else {
+        is_of_crate(package_facts, file_facts, name)
+    }
+}
+
+/// Returns whether a call of the macro of a row is for certain one of it.
+#[inline]
+fn is_certain_row(package_facts: &Facts, file_facts: &Facts, row: &Row<'_>) -> bool {
+    is_certain(package_facts, file_facts, row.name.as_bytes())
+}
+
+/// Returns those of these rows whose calls in a file of a package are for certain theirs.
+fn certain_rows<'a>(
+    rows: &[Row<'a>],
+    package_facts: &Facts,
+    file_facts: &Facts,
+) -> Result<Vec<Row<'a>>, AllocError> {
+    let mut list = Vec::new();
+    for row in rows {
+        if is_certain_row(package_facts, file_facts, row) {
+            list.try_push(*row)?;
+        }
+    }
+    Ok(list)
+}
+
+/// Returns the macros of a table whose calls in a file of a package are for certain theirs.
+pub fn certain_table<'a>(
+    table: &Table<'a>,
+    package_facts: &Facts,
+    file_facts: &Facts,
+) -> Result<Table<'a>, AllocError> {
+    let rows = certain_rows(&table.rows, package_facts, file_facts)?;
+    Ok(Table { rows })
+}

@@ -1,0 +1,5 @@
+pub mod Contexts
+pub mod Facts
+pub mod Files
+pub mod Names
+pub mod Owners

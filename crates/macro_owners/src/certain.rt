@@ -1,0 +1,175 @@
+//! Whose macro a name is in a file, and the rows of a table that are certain there.
+
+ghost use Rattle.std.specs.Prelude.{◌≡◌, IfOk, map};
+ghost use Rattle.std.specs.List.{filter};
+ghost use Rattle.format_calls.specs.Rows.{entry};
+ghost use Rattle.macro_owners.specs.Facts.{names_in};
+ghost use Rattle.macro_owners.specs.Names.{has};
+ghost use Rattle.macro_owners.specs.Owners.{gives, hides_globs, is_certain, is_free, is_of_crate};
+ghost use Rattle.macro_owners.specs.Owners.{is_std, is_used, lacks_owners, may_miss_std};
+ghost use Rattle.macro_owners.specs.Owners.{names_of};
+
+use crate::facts::Facts;
+use crate::names::{is_error_name, is_log_name, is_prelude, is_std_alone, kept_name};
+use format_calls::{Row, Table};
+use std::alloc::{AllocError, Global};
+use std::collections::BTreeSet;
+
+/// Returns whether a set has a name.
+fn has(names: &BTreeSet<&'static [u8]>, name: &'static [u8]) -> bool
+    ensures { result ≡ has (names_in names.now) name.now }
+{
+    names.contains(&name)
+}
+
+/// Returns whether files give a name in another way than its owner, or every name.
+fn gives(facts: &Facts, name: &'static [u8]) -> bool
+    ensures { result ≡ gives (names_of facts.now) name.now }
+{
+    has(&facts.given, name) || has(&facts.given, b"$")
+}
+
+/// Returns whether nothing in a package gives a name but its owner.
+fn is_free(package_facts: &Facts, file_facts: &Facts, name: &'static [u8]) -> bool
+    ensures { result ≡ is_free (names_of package_facts.now) (names_of file_facts.now) name.now }
+{
+    !(gives(package_facts, name) || gives(file_facts, name) || has(&file_facts.spoiled, name))
+}
+
+/// Returns whether a file takes a name from what is called std, and may be something else.
+fn may_miss_std(package_facts: &Facts, file_facts: &Facts, name: &'static [u8]) -> bool
+    ensures { result
+        ≡ may_miss_std (names_of package_facts.now) (names_of file_facts.now) name.now }
+{
+    let given = &package_facts.given;
+    let is_std_given = has(given, b"std") || has(given, b"core") || has(given, b"alloc");
+    is_std_given && (has(&package_facts.imported, name) || has(&file_facts.imported, name))
+}
+
+/// Returns whether a macro of the prelude of std is that one.
+fn is_std(package_facts: &Facts, file_facts: &Facts, name: &'static [u8]) -> bool
+    ensures { result ≡ is_std (names_of package_facts.now) (names_of file_facts.now) name.now }
+{
+    let given = &package_facts.given;
+    let may_glob_give = is_std_alone(name) && has(given, b"no_std") && has(given, b"*");
+    is_free(package_facts, file_facts, name)
+        && !(may_miss_std(package_facts, file_facts, name) || may_glob_give)
+}
+
+/// Returns whether no glob gives a name in a file that its package imports.
+fn hides_globs(package_facts: &Facts, file_facts: &Facts, name: &'static [u8]) -> bool
+    ensures { result ≡ hides_globs (names_of package_facts.now) (names_of file_facts.now) name.now }
+{
+    if !has(&package_facts.given, b"*") {
+        return true;
+    }
+    has(&file_facts.imported, name)
+        && !has(&file_facts.given, b"*")
+        && !has(&file_facts.given, b"crate")
+}
+
+/// Returns whether a file of a package uses all macros of a crate that owns a name.
+fn is_used(package_facts: &Facts, name: &'static [u8]) -> bool
+    ensures { result ≡ is_used (names_of package_facts.now) name.now }
+{
+    let used = &package_facts.used;
+    if is_log_name(name) {
+        has(used, b"log") || has(used, b"tracing") || has(used, b"slog")
+    } else if is_error_name(name) {
+        has(used, b"anyhow")
+            || has(used, b"eyre")
+            || has(used, b"color_eyre")
+            || has(used, b"failure")
+    } else {
+        false
+    }
+}
+
+/// Returns whether no file of a package gives the name of a crate that owns macros of logs or of
+/// errors.
+fn lacks_owners(package_facts: &Facts) -> bool
+    ensures { result ≡ lacks_owners (names_of package_facts.now) }
+{
+    let given = &package_facts.given;
+    !(has(given, b"std")
+        || has(given, b"core")
+        || has(given, b"alloc")
+        || has(given, b"log")
+        || has(given, b"tracing")
+        || has(given, b"slog")
+        || has(given, b"anyhow")
+        || has(given, b"eyre")
+        || has(given, b"color_eyre")
+        || has(given, b"failure"))
+}
+
+/// Returns whether a macro of a crate is its owner's.
+fn is_of_crate(package_facts: &Facts, file_facts: &Facts, name: &'static [u8]) -> bool
+    ensures { result ≡ is_of_crate (names_of package_facts.now) (names_of file_facts.now) name.now }
+{
+    if !is_free(package_facts, file_facts, name) || !lacks_owners(package_facts) {
+        return false;
+    }
+    is_used(package_facts, name)
+        || has(&package_facts.imported, name) && hides_globs(package_facts, file_facts, name)
+}
+
+/// Returns whether a call of this name in a file of a package is for certain one of the macro that
+/// tables mean. A name of which they know nothing is the user's.
+pub fn is_certain(package_facts: &Facts, file_facts: &Facts, name: &[u8]) -> bool
+    ensures { result ≡ is_certain (names_of package_facts.now) (names_of file_facts.now) name.now }
+{
+    let Some(name) = kept_name(name) else {
+        return true;
+    };
+    if is_prelude(name) {
+        is_std(package_facts, file_facts, name)
+    } else {
+        is_of_crate(package_facts, file_facts, name)
+    }
+}
+
+/// Returns whether a call of the macro of a row is for certain one of it.
+fn is_certain_row(package_facts: &Facts, file_facts: &Facts, row: &Row<'_>) -> bool
+    ensures { result
+        ≡ is_certain (names_of package_facts.now) (names_of file_facts.now) (entry row.now).name }
+{
+    is_certain(package_facts, file_facts, row.name.as_bytes())
+}
+
+/// Returns those of these rows whose calls in a file of a package are for certain theirs. Returns
+/// `Err` if an allocation fails.
+fn certain_rows<'a>(
+    alloc: Global,
+    rows: &[Row<'a>],
+    package_facts: &Facts,
+    file_facts: &Facts,
+) -> Result<Vec<Row<'a>>, AllocError>
+    ensures { IfOk result (λ v. map entry v.items
+        ≡ filter (λ e. is_certain (names_of package_facts.now) (names_of file_facts.now) e.name)
+        (map entry rows.now)) }
+{
+    let mut list = Vec::new(alloc);
+    for row in rows {
+        if is_certain_row(package_facts, file_facts, row) {
+            list.push(*row)?;
+        }
+    }
+    Ok(list)
+}
+
+/// Returns the macros of a table whose calls in a file of a package are for certain theirs. Returns
+/// `Err` if an allocation fails.
+pub fn certain_table<'a>(
+    alloc: Global,
+    table: &Table<'a>,
+    package_facts: &Facts,
+    file_facts: &Facts,
+) -> Result<Table<'a>, AllocError>
+    ensures { IfOk result (λ t. map entry t.rows.items
+        ≡ filter (λ e. is_certain (names_of package_facts.now) (names_of file_facts.now) e.name)
+        (map entry table.now.rows.items)) }
+{
+    let rows = certain_rows(alloc, &table.rows, package_facts, file_facts)?;
+    Ok(Table { rows })
+}

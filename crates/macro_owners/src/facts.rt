@@ -1,0 +1,317 @@
+//! The facts of files about names of macros.
+
+ghost use Rattle.std.specs.Prelude.{◌≡◌, IfOk, OnOk};
+ghost use Rattle.rust_trees.specs.Leaves.{leaf};
+ghost use Rattle.macro_owners.specs.Contexts.{seen};
+ghost use Rattle.macro_owners.specs.Facts.{Adds, AddsName, AddsToken, AreNone, HasMore};
+ghost use Rattle.macro_owners.specs.Facts.{attribute_mark};
+ghost use Rattle.macro_owners.specs.Facts.{given_by_import, given_by_item, given_name, glob_mark};
+ghost use Rattle.macro_owners.specs.Facts.{imported_name, is_bare, is_end};
+ghost use Rattle.macro_owners.specs.Facts.{is_known_crate, is_other_call, is_plain_import};
+ghost use Rattle.macro_owners.specs.Facts.{defined_name, given_outside, has_owner_path, is_import};
+ghost use Rattle.macro_owners.specs.Facts.{is_owned_import, is_renamed, owner_name, spoiled_name};
+ghost use Rattle.macro_owners.specs.Facts.{used_name, uses_crate};
+ghost use Rattle.macro_owners.specs.Names.{kept};
+
+use crate::context::{Context, defines, first_context};
+use crate::names::{
+    is_error_crate, is_harmless, is_log_crate, is_owner, is_std_crate, kept_name, owns,
+};
+use crate::words::{is_mark, is_named, word_of};
+use rust_trees::{Token, Tokens};
+use std::alloc::{AllocError, Global};
+use std::collections::BTreeSet;
+
+/// What the files of a package say about names of macros.
+#[derive(Drop)]
+pub struct Facts {
+    /// The names that they give in another way than their owners, and marks: `$` for every name,
+    /// `*` for a glob of another crate, `crate` for one of the own crate, and `no_std`.
+    pub given: BTreeSet<&'static [u8]>,
+    /// The names that they import from crates that own them.
+    pub imported: BTreeSet<&'static [u8]>,
+    /// The crates of which they use all macros.
+    pub used: BTreeSet<&'static [u8]>,
+    /// The names whose calls may be of another macro in the file that they stand in.
+    pub spoiled: BTreeSet<&'static [u8]>,
+}
+
+/// Returns whether a token may end a name of an import.
+fn is_end(token: Token<'_>) -> bool
+    ensures { result ≡ is_end (leaf token.entry) }
+{
+    let token = Some(token);
+    is_mark(token, b',') || is_mark(token, b';') || is_mark(token, b'}')
+}
+
+/// Returns whether the last word is another name for what is imported.
+fn is_renamed(context: Context<'_>) -> bool
+    ensures { result ≡ is_renamed (seen context.entry) }
+{
+    is_named(context.previous, "as")
+}
+
+/// Returns whether the import of the last word gives no name to a macro of another owner.
+fn is_plain_import(context: Context<'_>) -> bool
+    ensures { result ≡ is_plain_import (seen context.entry) }
+{
+    let root = word_of(context.import_root);
+    let name = word_of(context.last);
+    !is_renamed(context) && (owns(root, name) || is_std_crate(root) || root == name)
+}
+
+/// Returns the mark of a glob of a path with this first word, or nothing if it has none.
+fn glob_mark(root: &[u8]) -> &'static [u8]
+    ensures { result.now ≡ glob_mark root.now }
+{
+    if is_std_crate(root) || root == b"self".as_slice() || root == b"super".as_slice() {
+        b""
+    } else if root == b"crate".as_slice() {
+        b"crate"
+    } else {
+        b"*"
+    }
+}
+
+/// Returns the name that a token of an import gives, or nothing.
+fn given_by_import<'a>(context: Context<'a>, token: Token<'a>) -> &'a [u8]
+    ensures { result.now ≡ given_by_import (seen context.entry) (leaf token.entry) }
+{
+    if is_mark(context.last, b'$') && !is_named(Some(token), "crate") {
+        b"$"
+    } else if is_mark(Some(token), b'*') {
+        glob_mark(word_of(context.import_root))
+    } else if is_end(token) && !is_plain_import(context) {
+        word_of(context.last)
+    } else {
+        b""
+    }
+}
+
+/// Returns a word, or nothing if it is no name of a crate that owns macros.
+fn owner_name(word: &[u8]) -> &[u8]
+    ensures { result.now ≡ owner_name word.now }
+{
+    if is_owner(word) { word } else { b"" }
+}
+
+/// Returns whether the next word is a crate whose macros are all used.
+fn uses_crate(context: Context<'_>) -> bool
+    ensures { result ≡ uses_crate (seen context.entry) }
+{
+    context.uses_macros && is_named(context.last, "crate") && is_named(context.previous, "extern")
+}
+
+/// Returns whether the macros of a crate of this name are known.
+fn is_known_crate(word: &[u8]) -> bool
+    ensures { result ≡ is_known_crate word.now }
+{
+    is_harmless(word) || is_log_crate(word) || is_error_crate(word)
+}
+
+/// Returns the mark of an attribute of a file, or nothing.
+fn attribute_mark(word: &[u8]) -> &'static [u8]
+    ensures { result.now ≡ attribute_mark word.now }
+{
+    if word == b"no_std".as_slice() || word == b"no_core".as_slice() {
+        b"no_std"
+    } else if word == b"no_implicit_prelude".as_slice() {
+        b"$"
+    } else {
+        b""
+    }
+}
+
+/// Returns the name that a token gives outside of definitions and imports, or nothing.
+fn given_by_item<'a>(context: Context<'a>, token: Token<'a>) -> &'a [u8]
+    ensures { result.now ≡ given_by_item (seen context.entry) (leaf token.entry) }
+{
+    let name = word_of(Some(token));
+    if is_end(token) && is_renamed(context) {
+        owner_name(word_of(context.last))
+    } else if !uses_crate(context) {
+        attribute_mark(name)
+    } else if is_known_crate(name) {
+        b""
+    } else {
+        b"$"
+    }
+}
+
+/// Returns whether an import is not over yet.
+fn is_import(context: Context<'_>) -> bool
+    ensures { result ≡ is_import (seen context.entry) }
+{
+    context.import_root.is_some()
+}
+
+/// Returns the name that a token gives outside of definitions, or nothing.
+fn given_outside<'a>(context: Context<'a>, token: Token<'a>) -> &'a [u8]
+    ensures { result.now ≡ given_outside (seen context.entry) (leaf token.entry) }
+{
+    if is_import(context) {
+        given_by_import(context, token)
+    } else {
+        given_by_item(context, token)
+    }
+}
+
+/// Returns the name that a token defines by `macro_rules!`.
+fn defined_name<'a>(token: Token<'a>) -> &'a [u8]
+    ensures { result.now ≡ defined_name (leaf token.entry) }
+{
+    if is_mark(Some(token), b'$') {
+        b"$"
+    } else {
+        word_of(Some(token))
+    }
+}
+
+/// Returns the name that a token gives, or nothing.
+fn given_name<'a>(context: Context<'a>, token: Token<'a>) -> &'a [u8]
+    ensures { result.now ≡ given_name (seen context.entry) (leaf token.entry) }
+{
+    if defines(context) {
+        defined_name(token)
+    } else if is_named(context.last, "macro") {
+        word_of(Some(token))
+    } else if is_named(context.last, "mod") {
+        owner_name(word_of(Some(token)))
+    } else {
+        given_outside(context, token)
+    }
+}
+
+/// Returns whether a token ends an import of the last word from a crate that owns it.
+fn is_owned_import(context: Context<'_>, token: Token<'_>) -> bool
+    ensures { result ≡ is_owned_import (seen context.entry) (leaf token.entry) }
+{
+    is_import(context)
+        && is_end(token)
+        && !is_renamed(context)
+        && owns(word_of(context.import_root), word_of(context.last))
+}
+
+/// Returns whether the last word has a path of the crate that owns it.
+fn has_owner_path(context: Context<'_>) -> bool
+    ensures { result ≡ has_owner_path (seen context.entry) }
+{
+    context.goes_on && owns(word_of(context.path_root), word_of(context.last))
+}
+
+/// Returns the name that a token imports from a crate that owns it, or nothing.
+fn imported_name<'a>(context: Context<'a>, token: Token<'a>) -> &'a [u8]
+    ensures { result.now ≡ imported_name (seen context.entry) (leaf token.entry) }
+{
+    if is_owned_import(context, token) {
+        word_of(context.last)
+    } else if is_mark(Some(token), b'!') && has_owner_path(context) {
+        word_of(context.last)
+    } else {
+        b""
+    }
+}
+
+/// Returns the crate of which `macro_use` before a token gives all macros, or nothing.
+fn used_name<'a>(context: Context<'a>, token: Token<'a>) -> &'a [u8]
+    ensures { result.now ≡ used_name (seen context.entry) (leaf token.entry) }
+{
+    if uses_crate(context) {
+        owner_name(word_of(Some(token)))
+    } else {
+        b""
+    }
+}
+
+/// Returns whether a call of the last word may be of another macro.
+fn is_other_call(context: Context<'_>) -> bool
+    ensures { result ≡ is_other_call (seen context.entry) }
+{
+    let name = word_of(context.last);
+    context.goes_on && !owns(word_of(context.path_root), name)
+        || context.depth > 0 && context.exports
+}
+
+/// Returns whether the last word stands by itself, before this token.
+fn is_bare(context: Context<'_>, token: Token<'_>) -> bool
+    ensures { result ≡ is_bare (seen context.entry) (leaf token.entry) }
+{
+    let previous = context.previous;
+    !is_mark(Some(token), b'(')
+        && !(is_mark(previous, b'.') || is_mark(previous, b':') || is_mark(previous, b'$'))
+}
+
+/// Returns the name that may be another macro's in this file, or nothing.
+fn spoiled_name<'a>(context: Context<'a>, token: Token<'a>) -> &'a [u8]
+    ensures { result.now ≡ spoiled_name (seen context.entry) (leaf token.entry) }
+{
+    let is_call = is_mark(Some(token), b'!');
+    let is_spoiled = if is_call {
+        is_other_call(context)
+    } else {
+        context.depth > 0 && is_bare(context, token)
+    };
+    if is_spoiled {
+        word_of(context.last)
+    } else {
+        b""
+    }
+}
+
+/// Adds a name to a set if facts are kept about it. Returns `Err` if an allocation fails.
+fn put(names: &mut BTreeSet<&'static [u8]>, word: &[u8]) -> Result<(), AllocError>
+    ensures { OnOk result (HasMore names.old (kept word.now) names.new) }
+{
+    if let Some(name) = kept_name(word) {
+        names.insert(name)?;
+    }
+    Ok(())
+}
+
+/// Adds the facts of a token. Returns `Err` if an allocation fails.
+fn add_token(facts: &mut Facts, context: Context<'_>, token: Token<'_>) -> Result<(), AllocError>
+    ensures { OnOk result (AddsToken (seen context.entry) (leaf token.entry) facts.old facts.new) }
+{
+    put(&mut facts.given, given_name(context, token))?;
+    put(&mut facts.imported, imported_name(context, token))?;
+    put(&mut facts.used, used_name(context, token))?;
+    put(&mut facts.spoiled, spoiled_name(context, token))?;
+    Ok(())
+}
+
+impl Facts {
+    /// Returns those of no files.
+    pub fn new(alloc: Global) -> Facts
+        ensures { AreNone result }
+    {
+        Facts {
+            given: BTreeSet::new(alloc),
+            imported: BTreeSet::new(alloc),
+            used: BTreeSet::new(alloc),
+            spoiled: BTreeSet::new(alloc),
+        }
+    }
+
+    /// Returns these with a name more that the package gives. Returns `Err` if an allocation fails.
+    pub fn with_name(self, name: &str) -> Result<Facts, AllocError>
+        ensures { IfOk result (λ f. AddsName name.now self f) }
+    {
+        let mut facts = self;
+        put(&mut facts.given, name.as_bytes())?;
+        Ok(facts)
+    }
+
+    /// Returns these with the facts of a file more. Returns `Err` if an allocation fails.
+    pub fn with_file(self, text: &str) -> Result<Facts, AllocError>
+        ensures { IfOk result (λ f. Adds text.now self f) }
+    {
+        let mut facts = self;
+        let mut rest = Tokens::new(text);
+        let mut context = first_context();
+        while let Some(token) = rest.next() {
+            add_token(&mut facts, context, token)?;
+            context.pass(token);
+        }
+        Ok(facts)
+    }
+}

@@ -1,0 +1,86 @@
+//! The keys of a package that it can take over from its workspace.
+
+ghost use Rattle.std.specs.Prelude.{◌≡◌, option_map};
+ghost use Rattle.toml.specs.View.{view};
+ghost use Rattle.manifest.specs.Manifest as spec;
+ghost use Rattle.manifest.specs.Settings.{setting_view};
+
+use toml::Value;
+
+/// The value that a manifest gives a key of its package.
+#[derive(Clone, Copy, PartialEq)]
+pub enum Setting<'a> {
+    /// The key is absent.
+    Absent,
+    /// The value is this text.
+    Text(&'a str),
+    /// The value is that of the workspace: `KEY.workspace = true`.
+    Inherited,
+    /// The value is another one, which cargo refuses.
+    Unknown,
+}
+
+/// Returns the table of the package, or `None` if the manifest is of no package. Its old name is
+/// `project`.
+pub fn package_table(manifest: &Value) -> Option<&Value>
+    ensures { option_map (λ v. view v.now) result ≡ spec.package_table (view manifest.now) }
+{
+    match manifest.get("package") {
+        Some(table) => Some(table),
+        None => manifest.get("project"),
+    }
+}
+
+/// Returns the table of the workspace, or `None` if the manifest is no root of one.
+pub fn workspace_table(manifest: &Value) -> Option<&Value>
+    ensures { option_map (λ v. view v.now) result ≡ spec.workspace_table (view manifest.now) }
+{
+    manifest.get("workspace")
+}
+
+/// Returns whether a value is a table that says that another value is in the workspace's manifest.
+pub(crate) fn is_inherited(value: &Value) -> bool
+    ensures { result ≡ spec.is_inherited (view value.now) }
+{
+    match value.get("workspace") {
+        Some(value) => value.as_bool() == Some(true),
+        None => false,
+    }
+}
+
+/// Returns the setting that a value is, or that there is none.
+pub(crate) fn setting_of(value: Option<&Value>) -> Setting<'_>
+    ensures { setting_view result ≡ spec.value_of (option_map (λ v. view v.now) value.entry) }
+{
+    match value {
+        None => Setting::Absent,
+        Some(Value::String(text)) => Setting::Text(text.as_str()),
+        Some(value) if is_inherited(value) => Setting::Inherited,
+        Some(_) => Setting::Unknown,
+    }
+}
+
+/// Returns the setting of a key of the package.
+pub fn package_setting<'a>(manifest: &'a Value, key: &str) -> Setting<'a>
+    ensures { setting_view result
+        ≡ spec.value_of (spec.package_value key.now (view manifest.now)) }
+{
+    match package_table(manifest) {
+        Some(table) => setting_of(table.get(key)),
+        None => Setting::Absent,
+    }
+}
+
+/// Returns the setting that a workspace gives its packages for a key.
+pub(crate) fn workspace_setting<'a>(manifest: &'a Value, key: &str) -> Setting<'a>
+    ensures { setting_view result
+        ≡ spec.value_of (spec.workspace_value key.now (view manifest.now)) }
+{
+    let Some(workspace) = workspace_table(manifest) else {
+        return Setting::Absent;
+    };
+    match workspace.get("package") {
+        Some(table) => setting_of(table.get(key)),
+        None => Setting::Absent,
+    }
+}
