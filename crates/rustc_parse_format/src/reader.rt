@@ -225,6 +225,8 @@ impl<'input> Reader<'input> {
     {
         while let Some(c) = self.cursor.peek() {
             if !Class::Text.passes(c) {
+                // Whoever looks at this character need not read the text before it again.
+                self.cursor.move_anchor();
                 break;
             }
             if c == '\n' {

@@ -128,6 +128,10 @@ fn unescaped_width(snippet: &str, at: usize) -> usize
     ensures { IsUnescaped snippet.now at result }
 {
     let bytes = snippet.as_bytes();
+    // (so it is in a run of escapes)
+    if bytes[at] == b'\\' {
+        return 0;
+    }
     run_width(&bytes[at..bytes.len() - 1], Class::Unescaped)
 }
 
@@ -172,6 +176,9 @@ impl<'input> Anchor<'input> {
         ensures here { (w : World) → IsAnchor snippet.now w self.now
             → IsHere snippet.now w (chars result.0.now) result.1 }
     {
+        if self.unescaped_len == 0 {
+            return (self.rest, self.offset);
+        }
         let rest_after = after_bytes(self.rest, self.unescaped_len, rest);
         let distance = self.rest.len() - rest_after.len();
         let offset = self.offset + distance;

@@ -104,6 +104,10 @@ fn character_at(snippet: &str, at: usize) -> CharacterEnd {
 #[inline(always)]
 fn unescaped_width(snippet: &str, at: usize) -> usize {
     let bytes = snippet.as_bytes();
+    // (so it is in a run of escapes)
+    if bytes[at] == b'\\' {
+        return 0;
+    }
     run_width(&bytes[at..bytes.len() - 1], Class::Unescaped)
 }
 
@@ -132,6 +136,9 @@ impl<'input> Anchor<'input> {
     /// them. Returns the rest of the input there, and its byte offset in the snippet.
     #[inline(always)]
     fn after_unescaped(&self, snippet: &str, rest: &'input str) -> (&'input str, usize) {
+        if self.unescaped_len == 0 {
+            return (self.rest, self.offset);
+        }
         let rest_after = after_bytes(self.rest, self.unescaped_len, rest);
         let distance = self.rest.len() - rest_after.len();
         let offset = self.offset + distance;
