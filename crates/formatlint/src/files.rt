@@ -2,34 +2,25 @@
 
 ghost use Rattle.std.specs.Prelude.{◌≡◌};
 
-use crate::package_names::PackageNames;
-use crate::rewrites::{Rewrite, RewrittenFile, apply_rewrite, keep_certain};
+use crate::output::{write, write_shown};
+use crate::package_sources::PackageSources;
+use crate::reading::{
+    Extent, FileText, Origin, SourceFile, break_words, open_source, read_all, text_of,
+};
+use crate::rewrites::Rewrite;
 use crate::totals::Totals;
 use crate::walk::Walk;
 use finding_forms::{File, put_end, put_finding, put_start};
-use lint_program::{
-    Change, Failure, LeftText, Recorder, is_option, print_hint, replace, shown_bytes,
-};
+use lint_program::{Change, Failure, is_option, print_hint};
 use lint_words::Form;
-use manifest::{FileRules, Package, Packages};
-use piece_listing::run::write_whole;
-use rust_trees::{BreakKind, Places};
-use shown_text::{Kind, put_shown};
+use manifest::{FileRules, Packages};
+use rust_trees::Places;
 use source_lint::file_faults;
 use source_report::{Options, Report};
-use std::alloc::AllocError;
-use std::io::Read;
-use std::{fs, io};
-use unified_diff::put_diff;
-
-/// The most bytes of a file that are read.
-const MOST: usize = 64 << 20;
+use std::fs;
 
 /// The number of bytes of messages above which they are written, although more may come.
 const CHUNK: usize = 1 << 16;
-
-/// The id of the warning that a named argument is used by its index.
-const POSITION_ID: &str = "name-used-by-index";
 
 /// A request to read files and folders.
 #[derive(Drop)]
@@ -54,50 +45,20 @@ pub struct Request<'a> {
 
 /// A run.
 #[derive(Drop)]
-struct Run<'a> {
-    request: &'a Request<'a>,
-    options: Options<'a>,
-    packages: Packages,
-    names: PackageNames,
-    totals: Totals,
+pub struct Run<'a> {
+    pub request: &'a Request<'a>,
+    /// The macros that are read, and the edition of the last file.
+    pub options: Options<'a>,
+    pub packages: Packages,
+    /// What the sources of the package of the last file say, if that mattered.
+    pub sources: PackageSources,
+    pub totals: Totals,
     /// The text that is still to be written.
     out: String,
     /// Whether there was a message.
     has_messages: bool,
     /// Whether messages are written to standard error.
     is_aside: bool,
-}
-
-/// Returns why a file is not read further.
-fn break_words(kind: BreakKind) -> &'static str {
-    match kind {
-        BreakKind::UnclosedDelimiter => "this delimiter is not closed",
-        BreakKind::UnexpectedDelimiter => "unexpected closing delimiter",
-        BreakKind::UnterminatedToken => "this literal or comment has no end",
-    }
-}
-
-/// Writes a text to standard output.
-pub fn write(rt: &HostRuntime, text: &str) -> Result<(), Failure> {
-    write_bytes(rt, text.as_bytes())
-}
-
-/// Writes bytes to standard output.
-fn write_bytes(rt: &HostRuntime, bytes: &[u8]) -> Result<(), Failure> {
-    let mut writer = Recorder::new(rt.stdout());
-    match write_whole(&mut writer, bytes) {
-        Ok(()) => Ok(()),
-        Err(fault) => Err(Failure {
-            fault,
-            error: writer.error,
-        }),
-    }
-}
-
-/// Writes bytes of a file to standard output, on a terminal as drawings have them.
-fn write_shown(rt: &HostRuntime, bytes: &[u8]) -> Result<(), Failure> {
-    let mut drawing = String::new(rt.alloc());
-    write_bytes(rt, shown_bytes(rt, bytes, &mut drawing)?)
 }
 
 impl<'a> Run<'a> {
@@ -136,49 +97,6 @@ impl<'a> Run<'a> {
     }
 }
 
-/// The part of a file that was read.
-#[derive(Clone, Copy)]
-enum Extent {
-    /// All of it.
-    Whole,
-    /// The text before bytes that are not UTF-8.
-    Text,
-    /// The first 64 MiB.
-    Front,
-}
-
-/// The text at the start of a file.
-struct FileText<'a> {
-    text: &'a str,
-    extent: Extent,
-}
-
-/// Returns the text at the start of a file, and how much of it that is.
-fn text_of(bytes: &[u8]) -> FileText<'_> {
-    let is_cut = bytes.len() > MOST;
-    let front = bytes.get(..MOST).unwrap_or(bytes);
-    match str::from_utf8(front) {
-        Ok(text) if is_cut => FileText {
-            text,
-            extent: Extent::Front,
-        },
-        Ok(text) => FileText {
-            text,
-            extent: Extent::Whole,
-        },
-        Err(error) => {
-            let valid_front = front.get(..error.valid_up_to()).unwrap_or(&[]);
-            let text = str::from_utf8(valid_front).unwrap_or("");
-            let extent = if is_cut && error.error_len().is_none() {
-                Extent::Front
-            } else {
-                Extent::Text
-            };
-            FileText { text, extent }
-        }
-    }
-}
-
 /// Adds a failure to the totals if a file was not read to its end.
 fn add_break(
     rt: &HostRuntime,
@@ -203,60 +121,9 @@ fn add_break(
     }
 }
 
-/// Takes the warnings out of a report that the manifest of the file allows.
-fn drop_allowed(report: &mut Report, rules: FileRules) {
-    if !rules.warns_of_positions {
-        report.findings.retain(|finding| finding.id != POSITION_ID);
-    }
-}
-
-/// Reads a stream up to its end or the most bytes that are read.
-fn read_all<R: Read + Drop>(rt: &HostRuntime, stream: R) -> io::Result<Vec<u8>> {
-    let mut bytes = Vec::with_capacity(rt.alloc(), CHUNK)?;
-    stream.take(MOST as u64 + 1).read_to_end(&mut bytes)?;
-    Ok(bytes)
-}
-
-/// An open file, and the bytes that were read of it.
-#[derive(Drop)]
-struct SourceFile {
-    file: fs::File,
-    bytes: Vec<u8>,
-}
-
-/// Opens a file and reads it. Returns `None` if a walk found it and it does not lie there any more.
-fn open_source(
-    rt: &HostRuntime,
-    path: &str,
-    walk: Option<&Walk<'_>>,
-) -> io::Result<Option<SourceFile>> {
-    let file = fs::open(rt, path)?;
-    if let Some(walk) = walk {
-        if !walk.holds(rt, path, &file)? {
-            return Ok(None);
-        }
-    }
-    let bytes = read_all(rt, &file)?;
-    Ok(Some(SourceFile { file, bytes }))
-}
-
-/// Where the bytes of a file are from.
-#[derive(Clone, Copy)]
-enum Origin<'f> {
-    /// A file, which is still open.
-    File(&'f fs::File),
-    /// Standard input.
-    Stdin,
-}
-
-/// Returns the package of a file of which the project says this, or `None` if it is of none.
-fn package_of(packages: &Packages, rules: FileRules) -> Option<&Package> {
-    packages.package(rules.package?)
-}
-
 impl<'a> Run<'a> {
     /// Writes the messages of a report on a file, of which this extent was read.
-    fn put_report<'x>(
+    pub fn put_report<'x>(
         &mut self,
         rt: &HostRuntime,
         path: &'x str,
@@ -278,109 +145,18 @@ impl<'a> Run<'a> {
         Ok(())
     }
 
-    /// Writes the new text of a file where the request says. Returns whether that was done.
-    fn put_rewritten(
-        &mut self,
-        rt: &HostRuntime,
-        path: &str,
-        origin: Origin<'_>,
-        change: Change,
-        old: &str,
-        new: &str,
-    ) -> Result<bool, Failure> {
-        self.totals.clear_progress(rt);
-        match change {
-            Change::Diff => {
-                let mut diff = String::new(rt.alloc());
-                put_diff(&mut diff, path, old, new)?;
-                write_shown(rt, diff.as_bytes())?;
-            }
-            Change::Check => {
-                let mut line = String::new(rt.alloc());
-                put_shown(&mut line, Kind::Line, path)?;
-                line.push('\n')?;
-                write(rt, line.as_str())?;
-            }
-            Change::Write => {
-                let Origin::File(file) = origin else {
-                    write_shown(rt, new.as_bytes())?;
-                    return Ok(true);
-                };
-                if let Err(failure) = replace(rt, path, file, old.as_bytes(), new.as_bytes()) {
-                    self.totals.fail_step(rt, path, &failure);
-                    return Ok(failure.left == LeftText::New);
-                }
-            }
-        }
-        Ok(true)
-    }
-
-    /// Returns a text with what the request changes in it, in calls whose macro is known for
-    /// certain. The facts of the package are read only if any call would change.
-    fn rewritten(
-        &mut self,
-        rt: &HostRuntime,
-        text: &str,
-        origin: Origin<'_>,
-        rules: FileRules,
-    ) -> Result<RewrittenFile, AllocError> {
-        let mut rewrite = self.request.rewrite;
-        rewrite.inlines = rewrite.inlines && rules.may_inline;
-        let outcome = apply_rewrite(rt.alloc(), text, &self.options, rewrite)?;
-        if outcome.text.is_none() {
-            return Ok(outcome);
-        }
-        let package = package_of(&self.packages, rules);
-        if matches!(origin, Origin::Stdin) {
-            self.names.read_with(rt, package, text)?;
-        } else {
-            self.names.read(rt, package, text)?;
-        }
-        let facts = &self.names.facts;
-        keep_certain(rt.alloc(), text, &self.options, facts, rewrite, outcome)
-    }
-
-    /// Changes a file that was read whole, and writes what the request wants of it.
-    fn change_file(
-        &mut self,
-        rt: &HostRuntime,
-        path: &str,
-        text: &str,
-        origin: Origin<'_>,
-        change: Change,
-        rules: FileRules,
-    ) -> Result<(), Failure> {
-        let mut outcome = self.rewritten(rt, text, origin, rules)?;
-        drop_allowed(&mut outcome.report, rules);
-        let is_source = matches!(origin, Origin::Stdin) && change == Change::Write;
-        let Some(new) = &outcome.text else {
-            if is_source {
-                write_shown(rt, text.as_bytes())?;
-            }
-            self.totals.add(&outcome.report);
-            self.totals.add_inlinings(&outcome);
-            return self.put_report(rt, path, text, Extent::Whole, &outcome.report);
-        };
-        if !self.put_rewritten(rt, path, origin, change, text, new.as_str())? {
-            return self.report(rt, path, text, Extent::Whole, rules);
-        }
-        self.totals.add(&outcome.report);
-        self.totals.add_inlinings(&outcome);
-        self.totals.add_change(outcome.fixes);
-        self.put_report(rt, path, new.as_str(), Extent::Whole, &outcome.report)
-    }
-
     /// Reads a text of a file, and writes the messages about it.
-    fn report(
+    pub fn report(
         &mut self,
         rt: &HostRuntime,
         path: &str,
         text: &str,
         extent: Extent,
+        origin: Origin<'_>,
         rules: FileRules,
     ) -> Result<(), Failure> {
         let mut report = file_faults(rt.alloc(), text, &self.options)?;
-        drop_allowed(&mut report, rules);
+        self.drop_unwanted(rt, text, origin, rules, &mut report)?;
         self.totals.add(&report);
         self.put_report(rt, path, text, extent, &report)
     }
@@ -410,7 +186,7 @@ impl<'a> Run<'a> {
         let rules = self.rules(rt, path)?;
         self.options.is_from_2021 = rules.edition.is_from_2021();
         let Some(change) = self.request.change else {
-            return self.report(rt, path, text, extent, rules);
+            return self.report(rt, path, text, extent, origin, rules);
         };
         match extent {
             Extent::Whole if rules.may_write => {
@@ -419,9 +195,9 @@ impl<'a> Run<'a> {
             Extent::Whole | Extent::Text
                 if matches!(origin, Origin::Stdin) && change == Change::Write => {
                 write_shown(rt, bytes)?;
-                self.report(rt, path, text, extent, rules)
+                self.report(rt, path, text, extent, origin, rules)
             }
-            _ => self.report(rt, path, text, extent, rules),
+            _ => self.report(rt, path, text, extent, origin, rules),
         }
     }
 
@@ -534,7 +310,7 @@ pub fn lint<'a>(
         request,
         options,
         packages: Packages::new(rt, request.edition, request.rewrite.inlines),
-        names: PackageNames::new(rt),
+        sources: PackageSources::new(rt),
         totals: Totals::new(rt),
         out: String::new(rt.alloc()),
         has_messages: false,

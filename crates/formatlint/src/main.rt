@@ -1,23 +1,29 @@
 //! Finds the faults of format strings in Rust sources, or in one string, as the Rust compiler does.
 #![tactic(auto)]
 
+mod attributes;
+mod changed_files;
 mod files;
 mod inlinings;
-mod package_names;
+mod output;
+mod package_sources;
+mod reading;
 mod rewrites;
 mod totals;
 mod walk;
+mod wanted_reports;
 
 use clap::error::ErrorKind;
 use clap::{ArgMatches, Error};
 use drawn_lines::WIDTH;
 use fault_rules::{RULES, put_explanation, rule_of};
-use files::{Request, lint, write};
+use files::{Request, lint};
 use lint_program::{
     Change, VERSION, change_of, command, form_of, has_colours, literal_status, print_failure,
     table_of, width_of,
 };
 use lint_words::Form;
+use output::write;
 use rewrites::Rewrite;
 use shown_text::{Kind, put_shown};
 use source_report::Options;

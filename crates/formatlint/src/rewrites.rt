@@ -151,7 +151,7 @@ fn has_row(table: &Table<'_>, name: &str) -> bool {
 
 /// Returns whether a text may call a macro of a table that is not in `certain`, which has some of
 /// its rows.
-fn may_call_others(text: &str, table: &Table<'_>, certain: &Table<'_>) -> bool {
+pub fn may_call_others(text: &str, table: &Table<'_>, certain: &Table<'_>) -> bool {
     for row in &table.rows {
         if !has_row(certain, row.name) && may_call(text, row.name) {
             return true;

@@ -34,7 +34,7 @@ is_plain_import c = let r = word_of c.import_root in let n = word_of c.last in
 -- The mark of a glob of a path with this first word. One of std, or of a module around, has none.
 abbrev pub glob_mark : List ℕ → List ℕ
 glob_mark r = if is_std_crate r || (bytes_eq r (codes "self") || bytes_eq r (codes "super"))
-    then [] else (if bytes_eq r (codes "crate") then codes "crate" else codes "*")
+    then [] else (if bytes_eq r (codes "crate") || bytes_eq r (codes "defmt") then r else codes "*")
 
 -- The name that a token of an import gives. A variable of a macro gives every name.
 abbrev pub given_by_import : Context → Leaf → List ℕ

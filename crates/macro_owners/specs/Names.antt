@@ -10,8 +10,9 @@ use Rattle.format_calls.specs.Standard.{standard, with_crate_macros}
 abbrev pub has : List (List ℕ) → List ℕ → Bool
 has ns w = list_any (bytes_eq w) ns
 
--- The names that facts are kept about: macros, crates that own macros, and four marks: `$` for
--- every name, `*` for a glob of another crate, `crate` for one of the own crate, and `no_std`.
+-- The names that facts are kept about: macros, crates that own macros, and five marks: `$` for
+-- every name, `*` for a glob of another crate, `defmt` for one of that crate, `crate` for one of
+-- the own crate, and `no_std`.
 abbrev pub kept_names : List (List ℕ)
 kept_names =
     codes "format" ∷ codes "format_args" ∷ codes "print" ∷ codes "println" ∷ codes "eprint" ∷
@@ -23,7 +24,7 @@ kept_names =
     codes "trace" ∷ codes "crit" ∷ codes "log" ∷ codes "event" ∷ codes "anyhow" ∷ codes "eyre" ∷
     codes "format_err" ∷ codes "bail" ∷ codes "ensure" ∷ codes "std" ∷ codes "core" ∷
     codes "alloc" ∷ codes "tracing" ∷ codes "slog" ∷ codes "color_eyre" ∷ codes "failure" ∷
-    codes "$" ∷ codes "*" ∷ codes "crate" ∷ codes "no_std" ∷ []
+    codes "$" ∷ codes "*" ∷ codes "crate" ∷ codes "no_std" ∷ codes "defmt" ∷ []
 
 -- A word, if facts are kept about it.
 abbrev pub kept : List ℕ → List (List ℕ)

@@ -40,11 +40,15 @@ is_free p f n = not (gives p n || (gives f n || has f.spoiled n))
 abbrev pub may_miss_std : Names → Names → List ℕ → Bool
 may_miss_std p f n = has_any p.given std_crates && (has p.imported n || has f.imported n)
 
+-- A file has a glob of another crate.
+abbrev pub has_glob : Names → Bool
+has_glob f = has f.given (codes "*") || has f.given (codes "defmt")
+
 -- A macro of std's prelude is std's, unless the package gives the name. Without std's prelude a
 -- glob may give the names that core has not.
 abbrev pub is_std : Names → Names → List ℕ → Bool
 is_std p f n = is_free p f n && not (may_miss_std p f n
-    || (is_std_alone n && (has p.given (codes "no_std") && has p.given (codes "*"))))
+    || (is_std_alone n && (has p.given (codes "no_std") && has_glob p)))
 
 -- The crates of which `macro_use` gives a macro of this name.
 abbrev pub owners : List ℕ → List (List ℕ)
@@ -53,8 +57,8 @@ owners n = if is_log_name n then log_crates else (if is_error_name n then error_
 -- No glob gives the name in this file: no file has one of another crate, or this file imports the
 -- name and has no glob but of std and of modules around.
 abbrev pub hides_globs : Names → Names → List ℕ → Bool
-hides_globs p f n = not (has p.given (codes "*"))
-    || (has f.imported n && not (has f.given (codes "*") || has f.given (codes "crate")))
+hides_globs p f n = not (has_glob p)
+    || (has f.imported n && not (has_glob f || has f.given (codes "crate")))
 
 -- A file of the package uses all macros of a crate that owns the name.
 abbrev pub is_used : Names → List ℕ → Bool
@@ -75,3 +79,10 @@ is_of_crate p f n = is_free p f n && (lacks_owners p
 abbrev pub is_certain : Names → Names → List ℕ → Bool
 is_certain p f n = if not (has kept_names n) then true else
     (if is_prelude n then is_std p f n else is_of_crate p f n)
+
+-- A call of this name in the file f of the package p is likely one of the macro that tables mean:
+-- no file of the package gives the name in another way than its owner, and the file has no glob of
+-- defmt, whose macros for logs have format strings of their own.
+abbrev pub is_likely : Names → Names → List ℕ → Bool
+is_likely p f n = not (has kept_names n && (has p.given n || (has f.given n
+    || (is_log_name n && has f.given (codes "defmt")))))

@@ -1,13 +1,13 @@
-//! Whose macro a name is in a file, and the rows of a table that are certain there.
+//! Whose macro a name is in a file, and the rows of a table that are certain or likely there.
 
-ghost use Rattle.std.specs.Prelude.{◌≡◌, IfOk, map};
+ghost use Rattle.std.specs.Prelude.{◌≡◌, IfOk, if◌then◌else◌, map};
 ghost use Rattle.std.specs.List.{filter};
 ghost use Rattle.format_calls.specs.Rows.{entry};
 ghost use Rattle.macro_owners.specs.Facts.{names_in};
 ghost use Rattle.macro_owners.specs.Names.{has};
-ghost use Rattle.macro_owners.specs.Owners.{gives, hides_globs, is_certain, is_free, is_of_crate};
-ghost use Rattle.macro_owners.specs.Owners.{is_std, is_used, lacks_owners, may_miss_std};
-ghost use Rattle.macro_owners.specs.Owners.{names_of};
+ghost use Rattle.macro_owners.specs.Owners.{gives, has_glob, hides_globs, is_certain, is_free};
+ghost use Rattle.macro_owners.specs.Owners.{is_likely, is_of_crate, is_std, is_used, lacks_owners};
+ghost use Rattle.macro_owners.specs.Owners.{may_miss_std, names_of};
 
 use crate::facts::Facts;
 use crate::names::{is_error_name, is_log_name, is_prelude, is_std_alone, kept_name};
@@ -46,12 +46,20 @@ fn may_miss_std(package_facts: &Facts, file_facts: &Facts, name: &'static [u8]) 
     is_std_given && (has(&package_facts.imported, name) || has(&file_facts.imported, name))
 }
 
+/// Returns whether files have a glob of another crate.
+fn has_glob(facts: &Facts) -> bool
+    ensures { result ≡ has_glob (names_of facts.now) }
+{
+    has(&facts.given, b"*") || has(&facts.given, b"defmt")
+}
+
 /// Returns whether a macro of the prelude of std is that one.
 fn is_std(package_facts: &Facts, file_facts: &Facts, name: &'static [u8]) -> bool
     ensures { result ≡ is_std (names_of package_facts.now) (names_of file_facts.now) name.now }
 {
-    let given = &package_facts.given;
-    let may_glob_give = is_std_alone(name) && has(given, b"no_std") && has(given, b"*");
+    let may_glob_give = is_std_alone(name)
+        && has(&package_facts.given, b"no_std")
+        && has_glob(package_facts);
     is_free(package_facts, file_facts, name)
         && !(may_miss_std(package_facts, file_facts, name) || may_glob_give)
 }
@@ -60,12 +68,10 @@ fn is_std(package_facts: &Facts, file_facts: &Facts, name: &'static [u8]) -> boo
 fn hides_globs(package_facts: &Facts, file_facts: &Facts, name: &'static [u8]) -> bool
     ensures { result ≡ hides_globs (names_of package_facts.now) (names_of file_facts.now) name.now }
 {
-    if !has(&package_facts.given, b"*") {
+    if !has_glob(package_facts) {
         return true;
     }
-    has(&file_facts.imported, name)
-        && !has(&file_facts.given, b"*")
-        && !has(&file_facts.given, b"crate")
+    has(&file_facts.imported, name) && !has_glob(file_facts) && !has(&file_facts.given, b"crate")
 }
 
 /// Returns whether a file of a package uses all macros of a crate that owns a name.
@@ -129,29 +135,48 @@ pub fn is_certain(package_facts: &Facts, file_facts: &Facts, name: &[u8]) -> boo
     }
 }
 
-/// Returns whether a call of the macro of a row is for certain one of it.
-fn is_certain_row(package_facts: &Facts, file_facts: &Facts, row: &Row<'_>) -> bool
-    ensures { result
-        ≡ is_certain (names_of package_facts.now) (names_of file_facts.now) (entry row.now).name }
+/// Returns whether no other macro of this name is in sight in a file of a package. It may be
+/// another one all the same, where [`is_certain`] is `false`.
+fn is_likely(package_facts: &Facts, file_facts: &Facts, name: &[u8]) -> bool
+    ensures { result ≡ is_likely (names_of package_facts.now) (names_of file_facts.now) name.now }
 {
-    is_certain(package_facts, file_facts, row.name.as_bytes())
+    let Some(name) = kept_name(name) else {
+        return true;
+    };
+    let is_of_defmt = is_log_name(name) && has(&file_facts.given, b"defmt");
+    !(has(&package_facts.given, name) || has(&file_facts.given, name) || is_of_defmt)
 }
 
-/// Returns those of these rows whose calls in a file of a package are for certain theirs. Returns
-/// `Err` if an allocation fails.
-fn certain_rows<'a>(
+/// Returns whether a call of the macro of a row is one of it: for certain, or likely.
+fn is_meant(package_facts: &Facts, file_facts: &Facts, row: &Row<'_>, certainly: bool) -> bool
+    ensures { result ≡ (if certainly then is_certain else is_likely)
+        (names_of package_facts.now) (names_of file_facts.now) (entry row.now).name }
+{
+    let name = row.name.as_bytes();
+    if certainly {
+        is_certain(package_facts, file_facts, name)
+    } else {
+        is_likely(package_facts, file_facts, name)
+    }
+}
+
+/// Returns those of these rows whose calls in a file of a package are theirs: for certain, or
+/// likely. Returns `Err` if an allocation fails.
+fn meant_rows<'a>(
     alloc: Global,
     rows: &[Row<'a>],
     package_facts: &Facts,
     file_facts: &Facts,
+    certainly: bool,
 ) -> Result<Vec<Row<'a>>, AllocError>
     ensures { IfOk result (λ v. map entry v.items
-        ≡ filter (λ e. is_certain (names_of package_facts.now) (names_of file_facts.now) e.name)
+        ≡ filter (λ e. (if certainly then is_certain else is_likely)
+        (names_of package_facts.now) (names_of file_facts.now) e.name)
         (map entry rows.now)) }
 {
     let mut list = Vec::new(alloc);
     for row in rows {
-        if is_certain_row(package_facts, file_facts, row) {
+        if is_meant(package_facts, file_facts, row, certainly) {
             list.push(*row)?;
         }
     }
@@ -170,6 +195,22 @@ pub fn certain_table<'a>(
         ≡ filter (λ e. is_certain (names_of package_facts.now) (names_of file_facts.now) e.name)
         (map entry table.now.rows.items)) }
 {
-    let rows = certain_rows(alloc, &table.rows, package_facts, file_facts)?;
+    let rows = meant_rows(alloc, &table.rows, package_facts, file_facts, true)?;
+    Ok(Table { rows })
+}
+
+/// Returns the macros of a table of whose names no other macro is in sight in a file of a package.
+/// Returns `Err` if an allocation fails.
+pub fn likely_table<'a>(
+    alloc: Global,
+    table: &Table<'a>,
+    package_facts: &Facts,
+    file_facts: &Facts,
+) -> Result<Table<'a>, AllocError>
+    ensures { IfOk result (λ t. map entry t.rows.items
+        ≡ filter (λ e. is_likely (names_of package_facts.now) (names_of file_facts.now) e.name)
+        (map entry table.now.rows.items)) }
+{
+    let rows = meant_rows(alloc, &table.rows, package_facts, file_facts, false)?;
     Ok(Table { rows })
 }

@@ -26,7 +26,8 @@ use std::collections::BTreeSet;
 #[derive(Drop)]
 pub struct Facts {
     /// The names that they give in another way than their owners, and marks: `$` for every name,
-    /// `*` for a glob of another crate, `crate` for one of the own crate, and `no_std`.
+    /// `*` for a glob of another crate, `defmt` for one of that crate, `crate` for one of the own
+    /// crate, and `no_std`.
     pub given: BTreeSet<&'static [u8]>,
     /// The names that they import from crates that own them.
     pub imported: BTreeSet<&'static [u8]>,
@@ -68,6 +69,8 @@ fn glob_mark(root: &[u8]) -> &'static [u8]
         b""
     } else if root == b"crate".as_slice() {
         b"crate"
+    } else if root == b"defmt".as_slice() {
+        b"defmt"
     } else {
         b"*"
     }

@@ -8,5 +8,5 @@ mod facts;
 mod names;
 mod words;
 
-pub use certain::{certain_table, is_certain};
+pub use certain::{certain_table, is_certain, likely_table};
 pub use facts::Facts;

@@ -10,7 +10,7 @@ use format_calls::{is_of_crates, is_standard};
 
 /// The names that facts are kept about: macros, crates that own macros, and the marks of
 /// [`Facts`](crate::Facts).
-const KEPT: [&str; 47] = [
+const KEPT: [&str; 48] = [
     "format",
     "format_args",
     "print",
@@ -58,6 +58,7 @@ const KEPT: [&str; 47] = [
     "*",
     "crate",
     "no_std",
+    "defmt",
 ];
 
 /// Crates none of whose exported macros has a name of a table.

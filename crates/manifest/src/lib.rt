@@ -17,4 +17,4 @@ pub use facts::{Misfit, PackageFacts, clippy_version, package_facts};
 pub use packages::{FileRules, ManifestFailure, ManifestFault, Package, Packages};
 pub use settings::{Setting, package_setting, package_table, workspace_table};
 pub use targets::target_edition;
-pub use versions::{Edition, RustVersion, captures_variables, edition_named};
+pub use versions::{Edition, RustVersion, captures_variables, edition_named, version_named};

@@ -62,7 +62,7 @@ fn number(text: &str) -> Option<u32> {
 
 /// Returns the version of Rust that one to three numbers with points between name, as in `1`,
 /// `1.58` and `1.58.1`, or `None` if the name is another one.
-pub(crate) fn version_named(name: &str) -> Option<RustVersion> {
+pub fn version_named(name: &str) -> Option<RustVersion> {
     let Some((major, rest)) = name.split_once('.') else {
         return Some(RustVersion {
             major: number(name)?,

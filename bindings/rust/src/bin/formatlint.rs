@@ -1,6 +1,9 @@
 //! Tells and draws the faults of format strings.
 use std::process::ExitCode;
 
+#[path = "../out_of_memory.rs"]
+mod out_of_memory;
+
 fn main() -> ExitCode {
     dephungo::programs::formatlint()
 }

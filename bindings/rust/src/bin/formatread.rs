@@ -1,6 +1,9 @@
 //! Lists the pieces and the faults of a format string.
 use std::process::ExitCode;
 
+#[path = "../out_of_memory.rs"]
+mod out_of_memory;
+
 fn main() -> ExitCode {
     dephungo::programs::formatread()
 }

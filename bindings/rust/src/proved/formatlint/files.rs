@@ -4,35 +4,25 @@
 // That source has the contracts, and is proved. That this text means the same is only tested.
 
 use crate::proved::finding_forms::{put_end, put_finding, put_start, File};
-use crate::proved::formatlint::package_names::PackageNames;
-use crate::proved::formatlint::rewrites::{apply_rewrite, keep_certain, Rewrite, RewrittenFile};
+use crate::proved::formatlint::output::{write, write_shown};
+use crate::proved::formatlint::package_sources::PackageSources;
+use crate::proved::formatlint::reading::{
+    break_words, open_source, read_all, text_of, Extent, FileText, Origin, SourceFile,
+};
+use crate::proved::formatlint::rewrites::Rewrite;
 use crate::proved::formatlint::totals::Totals;
 use crate::proved::formatlint::walk::Walk;
-use crate::proved::lint_program::{
-    is_option, print_hint, replace, shown_bytes, Change, Failure, LeftText, Recorder,
-};
+use crate::proved::lint_program::{is_option, print_hint, Change, Failure};
 use crate::proved::lint_words::Form;
-use crate::proved::manifest::{FileRules, Package, Packages};
-use crate::proved::piece_listing::run::write_whole;
-use crate::proved::rust_trees::{BreakKind, Places};
-use crate::proved::shown_text::{put_shown, Kind};
+use crate::proved::manifest::{FileRules, Packages};
+use crate::proved::rust_trees::Places;
 use crate::proved::source_lint::file_faults;
 use crate::proved::source_report::{Options, Report};
-use crate::proved::unified_diff::put_diff;
-use crate::shim::alloc::AllocError;
 use crate::shim::host::fs;
 use crate::shim::prelude::*;
-use std::io;
-use std::io::Read;
-
-/// The most bytes of a file that are read.
-const MOST: usize = 64 << 20;
 
 /// The number of bytes of messages above which they are written, although more may come.
 const CHUNK: usize = 1 << 16;
-
-/// The id of the warning that a named argument is used by its index.
-const POSITION_ID: &str = "name-used-by-index";
 
 /// A request to read files and folders.
 pub struct Request<'a> {
@@ -55,51 +45,20 @@ pub struct Request<'a> {
 }
 
 /// A run.
-struct Run<'a> {
-    request: &'a Request<'a>,
-    options: Options<'a>,
-    packages: Packages,
-    names: PackageNames,
-    totals: Totals,
+pub struct Run<'a> {
+    pub request: &'a Request<'a>,
+    /// The macros that are read, and the edition of the last file.
+    pub options: Options<'a>,
+    pub packages: Packages,
+    /// What the sources of the package of the last file say, if that mattered.
+    pub sources: PackageSources,
+    pub totals: Totals,
     /// The text that is still to be written.
     out: String,
     /// Whether there was a message.
     has_messages: bool,
     /// Whether messages are written to standard error.
     is_aside: bool,
-}
-
-/// Returns why a file is not read further.
-fn break_words(kind: BreakKind) -> &'static str {
-    match kind {
-        BreakKind::UnclosedDelimiter => "this delimiter is not closed",
-        BreakKind::UnexpectedDelimiter => "unexpected closing delimiter",
-        BreakKind::UnterminatedToken => "this literal or comment has no end",
-    }
-}
-
-/// Writes a text to standard output.
-#[inline]
-pub fn write(rt: &crate::shim::host::HostRuntime, text: &str) -> Result<(), Failure> {
-    write_bytes(rt, text.as_bytes())
-}
-
-/// Writes bytes to standard output.
-fn write_bytes(rt: &crate::shim::host::HostRuntime, bytes: &[u8]) -> Result<(), Failure> {
-    let mut writer = Recorder::new(rt.stdout());
-    match write_whole(&mut writer, bytes) {
-        Ok(()) => Ok(()),
-        Err(fault) => Err(Failure {
-            fault,
-            error: writer.error,
-        }),
-    }
-}
-
-/// Writes bytes of a file to standard output, on a terminal as drawings have them.
-fn write_shown(rt: &crate::shim::host::HostRuntime, bytes: &[u8]) -> Result<(), Failure> {
-    let mut drawing = String::new();
-    write_bytes(rt, shown_bytes(rt, bytes, &mut drawing)?)
 }
 
 impl<'a> Run<'a> {
@@ -136,49 +95,6 @@ impl<'a> Run<'a> {
     }
 }
 
-/// The part of a file that was read.
-#[derive(Clone, Copy)]
-enum Extent {
-    /// All of it.
-    Whole,
-    /// The text before bytes that are not UTF-8.
-    Text,
-    /// The first 64 MiB.
-    Front,
-}
-
-/// The text at the start of a file.
-struct FileText<'a> {
-    text: &'a str,
-    extent: Extent,
-}
-
-/// Returns the text at the start of a file, and how much of it that is.
-fn text_of(bytes: &[u8]) -> FileText<'_> {
-    let is_cut = bytes.len() > MOST;
-    let front = bytes.get(..MOST).unwrap_or(bytes);
-    match core::str::from_utf8(front) {
-        Ok(text) if is_cut => FileText {
-            text,
-            extent: Extent::Front,
-        },
-        Ok(text) => FileText {
-            text,
-            extent: Extent::Whole,
-        },
-        Err(error) => {
-            let valid_front = front.get(..error.valid_up_to()).unwrap_or(&[]);
-            let text = core::str::from_utf8(valid_front).unwrap_or("");
-            let extent = if is_cut && error.error_len().is_none() {
-                Extent::Front
-            } else {
-                Extent::Text
-            };
-            FileText { text, extent }
-        }
-    }
-}
-
 /// Adds a failure to the totals if a file was not read to its end.
 fn add_break(
     rt: &crate::shim::host::HostRuntime,
@@ -201,60 +117,9 @@ fn add_break(
     }
 }
 
-/// Takes the warnings out of a report that the manifest of the file allows.
-fn drop_allowed(report: &mut Report, rules: FileRules) {
-    if !rules.warns_of_positions {
-        report.findings.retain(|finding| finding.id != POSITION_ID);
-    }
-}
-
-/// Reads a stream up to its end or the most bytes that are read.
-fn read_all<R: Read>(rt: &crate::shim::host::HostRuntime, stream: R) -> io::Result<Vec<u8>> {
-    let mut bytes = Vec::made_for(CHUNK)?;
-    stream.take(MOST as u64 + 1).read_to_end(&mut bytes)?;
-    Ok(bytes)
-}
-
-/// An open file, and the bytes that were read of it.
-struct SourceFile {
-    file: fs::File,
-    bytes: Vec<u8>,
-}
-
-/// Opens a file and reads it. Returns `None` if a walk found it and it does not lie there any more.
-fn open_source(
-    rt: &crate::shim::host::HostRuntime,
-    path: &str,
-    walk: Option<&Walk<'_>>,
-) -> io::Result<Option<SourceFile>> {
-    let file = fs::open(rt, path)?;
-    if let Some(walk) = walk {
-        if !walk.holds(rt, path, &file)? {
-            return Ok(None);
-        }
-    }
-    let bytes = read_all(rt, &file)?;
-    Ok(Some(SourceFile { file, bytes }))
-}
-
-/// Where the bytes of a file are from.
-#[derive(Clone, Copy)]
-enum Origin<'f> {
-    /// A file, which is still open.
-    File(&'f fs::File),
-    /// Standard input.
-    Stdin,
-}
-
-/// Returns the package of a file of which the project says this, or `None` if it is of none.
-#[inline]
-fn package_of(packages: &Packages, rules: FileRules) -> Option<&Package> {
-    packages.package(rules.package?)
-}
-
 impl<'a> Run<'a> {
     /// Writes the messages of a report on a file, of which this extent was read.
-    fn put_report<'x>(
+    pub fn put_report<'x>(
         &mut self,
         rt: &crate::shim::host::HostRuntime,
         path: &'x str,
@@ -276,109 +141,18 @@ impl<'a> Run<'a> {
         Ok(())
     }
 
-    /// Writes the new text of a file where the request says. Returns whether that was done.
-    fn put_rewritten(
-        &mut self,
-        rt: &crate::shim::host::HostRuntime,
-        path: &str,
-        origin: Origin<'_>,
-        change: Change,
-        old: &str,
-        new: &str,
-    ) -> Result<bool, Failure> {
-        self.totals.clear_progress(rt);
-        match change {
-            Change::Diff => {
-                let mut diff = String::new();
-                put_diff(&mut diff, path, old, new)?;
-                write_shown(rt, diff.as_bytes())?;
-            }
-            Change::Check => {
-                let mut line = String::new();
-                put_shown(&mut line, Kind::Line, path)?;
-                line.try_push('\n')?;
-                write(rt, line.as_str())?;
-            }
-            Change::Write => {
-                let Origin::File(file) = origin else {
-                    write_shown(rt, new.as_bytes())?;
-                    return Ok(true);
-                };
-                if let Err(failure) = replace(rt, path, file, old.as_bytes(), new.as_bytes()) {
-                    self.totals.fail_step(rt, path, &failure);
-                    return Ok(failure.left == LeftText::New);
-                }
-            }
-        }
-        Ok(true)
-    }
-
-    /// Returns a text with what the request changes in it, in calls whose macro is known for
-    /// certain. The facts of the package are read only if any call would change.
-    fn rewritten(
-        &mut self,
-        rt: &crate::shim::host::HostRuntime,
-        text: &str,
-        origin: Origin<'_>,
-        rules: FileRules,
-    ) -> Result<RewrittenFile, AllocError> {
-        let mut rewrite = self.request.rewrite;
-        rewrite.inlines = rewrite.inlines && rules.may_inline;
-        let outcome = apply_rewrite(text, &self.options, rewrite)?;
-        if outcome.text.is_none() {
-            return Ok(outcome);
-        }
-        let package = package_of(&self.packages, rules);
-        if matches!(origin, Origin::Stdin) {
-            self.names.read_with(rt, package, text)?;
-        } else {
-            self.names.read(rt, package, text)?;
-        }
-        let facts = &self.names.facts;
-        keep_certain(text, &self.options, facts, rewrite, outcome)
-    }
-
-    /// Changes a file that was read whole, and writes what the request wants of it.
-    fn change_file(
-        &mut self,
-        rt: &crate::shim::host::HostRuntime,
-        path: &str,
-        text: &str,
-        origin: Origin<'_>,
-        change: Change,
-        rules: FileRules,
-    ) -> Result<(), Failure> {
-        let mut outcome = self.rewritten(rt, text, origin, rules)?;
-        drop_allowed(&mut outcome.report, rules);
-        let is_source = matches!(origin, Origin::Stdin) && change == Change::Write;
-        let Some(new) = &outcome.text else {
-            if is_source {
-                write_shown(rt, text.as_bytes())?;
-            }
-            self.totals.add(&outcome.report);
-            self.totals.add_inlinings(&outcome);
-            return self.put_report(rt, path, text, Extent::Whole, &outcome.report);
-        };
-        if !self.put_rewritten(rt, path, origin, change, text, new.as_str())? {
-            return self.report(rt, path, text, Extent::Whole, rules);
-        }
-        self.totals.add(&outcome.report);
-        self.totals.add_inlinings(&outcome);
-        self.totals.add_change(outcome.fixes);
-        self.put_report(rt, path, new.as_str(), Extent::Whole, &outcome.report)
-    }
-
     /// Reads a text of a file, and writes the messages about it.
-    fn report(
+    pub fn report(
         &mut self,
         rt: &crate::shim::host::HostRuntime,
         path: &str,
         text: &str,
         extent: Extent,
+        origin: Origin<'_>,
         rules: FileRules,
     ) -> Result<(), Failure> {
         let mut report = file_faults(text, &self.options)?;
-        drop_allowed(&mut report, rules);
+        self.drop_unwanted(rt, text, origin, rules, &mut report)?;
         self.totals.add(&report);
         self.put_report(rt, path, text, extent, &report)
     }
@@ -412,7 +186,7 @@ impl<'a> Run<'a> {
         let rules = self.rules(rt, path)?;
         self.options.is_from_2021 = rules.edition.is_from_2021();
         let Some(change) = self.request.change else {
-            return self.report(rt, path, text, extent, rules);
+            return self.report(rt, path, text, extent, origin, rules);
         };
         match extent {
             Extent::Whole if rules.may_write => {
@@ -422,9 +196,9 @@ impl<'a> Run<'a> {
                 if matches!(origin, Origin::Stdin) && change == Change::Write =>
             {
                 write_shown(rt, bytes)?;
-                self.report(rt, path, text, extent, rules)
+                self.report(rt, path, text, extent, origin, rules)
             }
-            _ => self.report(rt, path, text, extent, rules),
+            _ => self.report(rt, path, text, extent, origin, rules),
         }
     }
 
@@ -545,7 +319,7 @@ pub fn lint<'a>(
         request,
         options,
         packages: Packages::new(rt, request.edition, request.rewrite.inlines),
-        names: PackageNames::new(rt),
+        sources: PackageSources::new(rt),
         totals: Totals::new(rt),
         out: String::new(),
         has_messages: false,

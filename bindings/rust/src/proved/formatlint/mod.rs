@@ -4,12 +4,17 @@
 // That source has the contracts, and is proved. That this text means the same is only tested.
 
 use crate::shim::prelude::*;
+pub(crate) mod attributes;
+pub(crate) mod changed_files;
 pub(crate) mod files;
 pub(crate) mod inlinings;
-pub(crate) mod package_names;
+pub(crate) mod output;
+pub(crate) mod package_sources;
+pub(crate) mod reading;
 pub(crate) mod rewrites;
 pub(crate) mod totals;
 pub(crate) mod walk;
+pub(crate) mod wanted_reports;
 
 use crate::proved::drawn_lines::WIDTH;
 use crate::proved::fault_rules::{put_explanation, rule_of, RULES};
@@ -25,7 +30,8 @@ use crate::shim::clap::error::ErrorKind;
 use crate::shim::clap::{ArgMatches, Error};
 use crate::shim::host::env;
 use crate::shim::strsim::levenshtein;
-use files::{lint, write, Request};
+use files::{lint, Request};
+use output::write;
 use rewrites::Rewrite;
 use std::process::ExitCode;
 use totals::Totals;

@@ -1,4 +1,4 @@
-//! Whose macro a name is in a file, and the rows of a table that are certain there.
+//! Whose macro a name is in a file, and the rows of a table that are certain or likely there.
 
 // Extracted from crates/macro_owners/src/certain.rt by tools/extract: not to be edited.
 // That source has the contracts, and is proved. That this text means the same is only tested.
@@ -35,22 +35,25 @@ fn may_miss_std(package_facts: &Facts, file_facts: &Facts, name: &'static [u8]) 
     is_std_given && (has(&package_facts.imported, name) || has(&file_facts.imported, name))
 }
 
+/// Returns whether files have a glob of another crate.
+fn has_glob(facts: &Facts) -> bool {
+    has(&facts.given, b"*") || has(&facts.given, b"defmt")
+}
+
 /// Returns whether a macro of the prelude of std is that one.
 fn is_std(package_facts: &Facts, file_facts: &Facts, name: &'static [u8]) -> bool {
-    let given = &package_facts.given;
-    let may_glob_give = is_std_alone(name) && has(given, b"no_std") && has(given, b"*");
+    let may_glob_give =
+        is_std_alone(name) && has(&package_facts.given, b"no_std") && has_glob(package_facts);
     is_free(package_facts, file_facts, name)
         && !(may_miss_std(package_facts, file_facts, name) || may_glob_give)
 }
 
 /// Returns whether no glob gives a name in a file that its package imports.
 fn hides_globs(package_facts: &Facts, file_facts: &Facts, name: &'static [u8]) -> bool {
-    if !has(&package_facts.given, b"*") {
+    if !has_glob(package_facts) {
         return true;
     }
-    has(&file_facts.imported, name)
-        && !has(&file_facts.given, b"*")
-        && !has(&file_facts.given, b"crate")
+    has(&file_facts.imported, name) && !has_glob(file_facts) && !has(&file_facts.given, b"crate")
 }
 
 /// Returns whether a file of a package uses all macros of a crate that owns a name.
@@ -106,21 +109,37 @@ pub fn is_certain(package_facts: &Facts, file_facts: &Facts, name: &[u8]) -> boo
     }
 }
 
-/// Returns whether a call of the macro of a row is for certain one of it.
-#[inline]
-fn is_certain_row(package_facts: &Facts, file_facts: &Facts, row: &Row<'_>) -> bool {
-    is_certain(package_facts, file_facts, row.name.as_bytes())
+/// Returns whether no other macro of this name is in sight in a file of a package. It may be
+/// another one all the same, where [`is_certain`] is `false`.
+fn is_likely(package_facts: &Facts, file_facts: &Facts, name: &[u8]) -> bool {
+    let Some(name) = kept_name(name) else {
+        return true;
+    };
+    let is_of_defmt = is_log_name(name) && has(&file_facts.given, b"defmt");
+    !(has(&package_facts.given, name) || has(&file_facts.given, name) || is_of_defmt)
 }
 
-/// Returns those of these rows whose calls in a file of a package are for certain theirs.
-fn certain_rows<'a>(
+/// Returns whether a call of the macro of a row is one of it: for certain, or likely.
+fn is_meant(package_facts: &Facts, file_facts: &Facts, row: &Row<'_>, certainly: bool) -> bool {
+    let name = row.name.as_bytes();
+    if certainly {
+        is_certain(package_facts, file_facts, name)
+    } else {
+        is_likely(package_facts, file_facts, name)
+    }
+}
+
+/// Returns those of these rows whose calls in a file of a package are theirs: for certain, or
+/// likely.
+fn meant_rows<'a>(
     rows: &[Row<'a>],
     package_facts: &Facts,
     file_facts: &Facts,
+    certainly: bool,
 ) -> Result<Vec<Row<'a>>, AllocError> {
     let mut list = Vec::new();
     for row in rows {
-        if is_certain_row(package_facts, file_facts, row) {
+        if is_meant(package_facts, file_facts, row, certainly) {
             list.try_push(*row)?;
         }
     }
@@ -133,6 +152,16 @@ pub fn certain_table<'a>(
     package_facts: &Facts,
     file_facts: &Facts,
 ) -> Result<Table<'a>, AllocError> {
-    let rows = certain_rows(&table.rows, package_facts, file_facts)?;
+    let rows = meant_rows(&table.rows, package_facts, file_facts, true)?;
+    Ok(Table { rows })
+}
+
+/// Returns the macros of a table of whose names no other macro is in sight in a file of a package.
+pub fn likely_table<'a>(
+    table: &Table<'a>,
+    package_facts: &Facts,
+    file_facts: &Facts,
+) -> Result<Table<'a>, AllocError> {
+    let rows = meant_rows(&table.rows, package_facts, file_facts, false)?;
     Ok(Table { rows })
 }

@@ -10,5 +10,5 @@ pub(crate) mod facts;
 pub(crate) mod names;
 pub(crate) mod words;
 
-pub use certain::certain_table;
+pub use certain::{certain_table, likely_table};
 pub use facts::Facts;

@@ -14,3 +14,4 @@ pub(crate) mod targets;
 pub(crate) mod versions;
 pub use facts::Misfit;
 pub use packages::{FileRules, ManifestFailure, ManifestFault, Package, Packages};
+pub use versions::{captures_variables, version_named};

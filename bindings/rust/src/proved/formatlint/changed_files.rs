@@ -1,0 +1,112 @@
+//! The changes of a run in a file.
+
+// Extracted from crates/formatlint/src/changed_files.rt by tools/extract: not to be edited.
+// That source has the contracts, and is proved. That this text means the same is only tested.
+
+use crate::proved::formatlint::attributes::{allowed_parts, Lint};
+use crate::proved::formatlint::files::Run;
+use crate::proved::formatlint::output::{write, write_shown};
+use crate::proved::formatlint::reading::{Extent, Origin};
+use crate::proved::formatlint::rewrites::{apply_rewrite, keep_certain, RewrittenFile};
+use crate::proved::lint_program::{replace, Change, Failure, LeftText};
+use crate::proved::manifest::FileRules;
+use crate::proved::shown_text::{put_shown, Kind};
+use crate::proved::unified_diff::put_diff;
+use crate::shim::alloc::AllocError;
+use crate::shim::prelude::*;
+
+impl<'a> Run<'a> {
+    /// Writes the new text of a file where the request says. Returns whether that was done.
+    fn put_rewritten(
+        &mut self,
+        rt: &crate::shim::host::HostRuntime,
+        path: &str,
+        origin: Origin<'_>,
+        change: Change,
+        old: &str,
+        new: &str,
+    ) -> Result<bool, Failure> {
+        self.totals.clear_progress(rt);
+        match change {
+            Change::Diff => {
+                let mut diff = String::new();
+                put_diff(&mut diff, path, old, new)?;
+                write_shown(rt, diff.as_bytes())?;
+            }
+            Change::Check => {
+                let mut line = String::new();
+                put_shown(&mut line, Kind::Line, path)?;
+                line.try_push('\n')?;
+                write(rt, line.as_str())?;
+            }
+            Change::Write => {
+                let Origin::File(file) = origin else {
+                    write_shown(rt, new.as_bytes())?;
+                    return Ok(true);
+                };
+                if let Err(failure) = replace(rt, path, file, old.as_bytes(), new.as_bytes()) {
+                    self.totals.fail_step(rt, path, &failure);
+                    return Ok(failure.left == LeftText::New);
+                }
+            }
+        }
+        Ok(true)
+    }
+
+    /// Returns a text with what the request changes in it, in calls whose macro is known for
+    /// certain. The sources of the package are read only if any call would change.
+    fn rewritten(
+        &mut self,
+        rt: &crate::shim::host::HostRuntime,
+        text: &str,
+        origin: Origin<'_>,
+        rules: FileRules,
+    ) -> Result<RewrittenFile, AllocError> {
+        let mut rewrite = self.request.rewrite;
+        rewrite.inlines = rewrite.inlines
+            && rules.may_inline
+            && allowed_parts(text, Lint::Arguments)?.ranges.is_empty();
+        let mut outcome = apply_rewrite(text, &self.options, rewrite)?;
+        if outcome.text.is_none() {
+            return Ok(outcome);
+        }
+        self.read_sources(rt, text, origin, rules)?;
+        if rewrite.inlines && self.sources.allows_arguments {
+            rewrite.inlines = false;
+            outcome = apply_rewrite(text, &self.options, rewrite)?;
+        }
+        let facts = &self.sources.facts;
+        keep_certain(text, &self.options, facts, rewrite, outcome)
+    }
+
+    /// Changes a file that was read whole, and writes what the request wants of it.
+    pub fn change_file(
+        &mut self,
+        rt: &crate::shim::host::HostRuntime,
+        path: &str,
+        text: &str,
+        origin: Origin<'_>,
+        change: Change,
+        rules: FileRules,
+    ) -> Result<(), Failure> {
+        let mut outcome = self.rewritten(rt, text, origin, rules)?;
+        let is_source = matches!(origin, Origin::Stdin) && change == Change::Write;
+        let Some(new) = &outcome.text else {
+            if is_source {
+                write_shown(rt, text.as_bytes())?;
+            }
+            self.drop_unwanted(rt, text, origin, rules, &mut outcome.report)?;
+            self.totals.add(&outcome.report);
+            self.totals.add_inlinings(&outcome);
+            return self.put_report(rt, path, text, Extent::Whole, &outcome.report);
+        };
+        if !self.put_rewritten(rt, path, origin, change, text, new.as_str())? {
+            return self.report(rt, path, text, Extent::Whole, origin, rules);
+        }
+        self.drop_unwanted(rt, new.as_str(), origin, rules, &mut outcome.report)?;
+        self.totals.add(&outcome.report);
+        self.totals.add_inlinings(&outcome);
+        self.totals.add_change(outcome.fixes);
+        self.put_report(rt, path, new.as_str(), Extent::Whole, &outcome.report)
+    }
+}

@@ -1,0 +1,100 @@
+//! The faults of a file that are reported: those of the macros that are meant, and no warning that
+//! the project allows.
+
+// Extracted from crates/formatlint/src/wanted_reports.rt by tools/extract: not to be edited.
+// That source has the contracts, and is proved. That this text means the same is only tested.
+
+use crate::proved::formatlint::attributes::{allowed_parts, Lint};
+use crate::proved::formatlint::files::Run;
+use crate::proved::formatlint::reading::Origin;
+use crate::proved::formatlint::rewrites::may_call_others;
+use crate::proved::macro_owners::{likely_table, Facts};
+use crate::proved::manifest::FileRules;
+use crate::proved::source_lint::file_faults;
+use crate::proved::source_report::{Finding, Options, Report};
+use crate::shim::alloc::AllocError;
+
+/// The id of the warning that a named argument is used by its index.
+const POSITION_ID: &str = "name-used-by-index";
+
+/// Takes the faults out of a report on a text that are of other macros than those of the table, as
+/// far as such macros are in sight, by the facts of the package.
+fn drop_unlikely(
+    text: &str,
+    options: &Options<'_>,
+    package_facts: &Facts,
+    report: &mut Report,
+) -> Result<(), AllocError> {
+    let file_facts = Facts::new().with_file(text)?;
+    let table = likely_table(&options.table, package_facts, &file_facts)?;
+    if may_call_others(text, &options.table, &table) {
+        let likely_options = Options {
+            table,
+            is_from_2021: options.is_from_2021,
+        };
+        let likely_report = file_faults(text, &likely_options)?;
+        report.findings = likely_report.findings;
+    }
+    Ok(())
+}
+
+/// Returns whether one of these is a warning that a named argument is used by its index.
+fn has_position(findings: &[Finding]) -> bool {
+    for finding in findings {
+        if finding.id == POSITION_ID {
+            return true;
+        }
+    }
+    false
+}
+
+impl<'a> Run<'a> {
+    /// Reads what the sources of the package of a file say, which has this text.
+    pub(crate) fn read_sources(
+        &mut self,
+        rt: &crate::shim::host::HostRuntime,
+        text: &str,
+        origin: Origin<'_>,
+        rules: FileRules,
+    ) -> Result<(), AllocError> {
+        let package = match rules.package {
+            Some(index) => self.packages.package(index),
+            None => None,
+        };
+        if matches!(origin, Origin::Stdin) {
+            self.sources.read_with(rt, package, text)
+        } else {
+            self.sources.read(rt, package, text)
+        }
+    }
+
+    /// Takes the faults out of a report on a file that are not to be reported. The sources of the
+    /// package are read only if there are faults.
+    pub(crate) fn drop_unwanted(
+        &mut self,
+        rt: &crate::shim::host::HostRuntime,
+        text: &str,
+        origin: Origin<'_>,
+        rules: FileRules,
+        report: &mut Report,
+    ) -> Result<(), AllocError> {
+        if !rules.warns_of_positions {
+            report.findings.retain(|finding| finding.id != POSITION_ID);
+        }
+        if report.findings.is_empty() {
+            return Ok(());
+        }
+        self.read_sources(rt, text, origin, rules)?;
+        drop_unlikely(text, &self.options, &self.sources.facts, report)?;
+        if self.sources.allows_positions {
+            report.findings.retain(|finding| finding.id != POSITION_ID);
+        }
+        if has_position(&report.findings) {
+            let parts = allowed_parts(text, Lint::Positions)?;
+            report
+                .findings
+                .retain(|finding| finding.id != POSITION_ID || !parts.has(finding.span.start));
+        }
+        Ok(())
+    }
+}

@@ -1,0 +1,110 @@
+//! The changes of a run in a file.
+
+use crate::attributes::{Lint, allowed_parts};
+use crate::files::Run;
+use crate::output::{write, write_shown};
+use crate::reading::{Extent, Origin};
+use crate::rewrites::{RewrittenFile, apply_rewrite, keep_certain};
+use lint_program::{Change, Failure, LeftText, replace};
+use manifest::FileRules;
+use shown_text::{Kind, put_shown};
+use std::alloc::AllocError;
+use unified_diff::put_diff;
+
+impl<'a> Run<'a> {
+    /// Writes the new text of a file where the request says. Returns whether that was done.
+    fn put_rewritten(
+        &mut self,
+        rt: &HostRuntime,
+        path: &str,
+        origin: Origin<'_>,
+        change: Change,
+        old: &str,
+        new: &str,
+    ) -> Result<bool, Failure> {
+        self.totals.clear_progress(rt);
+        match change {
+            Change::Diff => {
+                let mut diff = String::new(rt.alloc());
+                put_diff(&mut diff, path, old, new)?;
+                write_shown(rt, diff.as_bytes())?;
+            }
+            Change::Check => {
+                let mut line = String::new(rt.alloc());
+                put_shown(&mut line, Kind::Line, path)?;
+                line.push('\n')?;
+                write(rt, line.as_str())?;
+            }
+            Change::Write => {
+                let Origin::File(file) = origin else {
+                    write_shown(rt, new.as_bytes())?;
+                    return Ok(true);
+                };
+                if let Err(failure) = replace(rt, path, file, old.as_bytes(), new.as_bytes()) {
+                    self.totals.fail_step(rt, path, &failure);
+                    return Ok(failure.left == LeftText::New);
+                }
+            }
+        }
+        Ok(true)
+    }
+
+    /// Returns a text with what the request changes in it, in calls whose macro is known for
+    /// certain. The sources of the package are read only if any call would change.
+    fn rewritten(
+        &mut self,
+        rt: &HostRuntime,
+        text: &str,
+        origin: Origin<'_>,
+        rules: FileRules,
+    ) -> Result<RewrittenFile, AllocError> {
+        let mut rewrite = self.request.rewrite;
+        rewrite.inlines = rewrite.inlines
+            && rules.may_inline
+            && allowed_parts(rt.alloc(), text, Lint::Arguments)?
+                .ranges
+                .is_empty();
+        let mut outcome = apply_rewrite(rt.alloc(), text, &self.options, rewrite)?;
+        if outcome.text.is_none() {
+            return Ok(outcome);
+        }
+        self.read_sources(rt, text, origin, rules)?;
+        if rewrite.inlines && self.sources.allows_arguments {
+            rewrite.inlines = false;
+            outcome = apply_rewrite(rt.alloc(), text, &self.options, rewrite)?;
+        }
+        let facts = &self.sources.facts;
+        keep_certain(rt.alloc(), text, &self.options, facts, rewrite, outcome)
+    }
+
+    /// Changes a file that was read whole, and writes what the request wants of it.
+    pub fn change_file(
+        &mut self,
+        rt: &HostRuntime,
+        path: &str,
+        text: &str,
+        origin: Origin<'_>,
+        change: Change,
+        rules: FileRules,
+    ) -> Result<(), Failure> {
+        let mut outcome = self.rewritten(rt, text, origin, rules)?;
+        let is_source = matches!(origin, Origin::Stdin) && change == Change::Write;
+        let Some(new) = &outcome.text else {
+            if is_source {
+                write_shown(rt, text.as_bytes())?;
+            }
+            self.drop_unwanted(rt, text, origin, rules, &mut outcome.report)?;
+            self.totals.add(&outcome.report);
+            self.totals.add_inlinings(&outcome);
+            return self.put_report(rt, path, text, Extent::Whole, &outcome.report);
+        };
+        if !self.put_rewritten(rt, path, origin, change, text, new.as_str())? {
+            return self.report(rt, path, text, Extent::Whole, origin, rules);
+        }
+        self.drop_unwanted(rt, new.as_str(), origin, rules, &mut outcome.report)?;
+        self.totals.add(&outcome.report);
+        self.totals.add_inlinings(&outcome);
+        self.totals.add_change(outcome.fixes);
+        self.put_report(rt, path, new.as_str(), Extent::Whole, &outcome.report)
+    }
+}

@@ -1,0 +1,222 @@
+//! What the source files of a package say of names of macros and of lints.
+
+use crate::attributes::{Lint, allowed_parts};
+use crate::walk::is_left_out;
+use macro_owners::Facts;
+use manifest::Package;
+use std::alloc::AllocError;
+use std::fs::DirEntry;
+use std::io::Read;
+use std::{fs, io, mem};
+
+/// The most bytes of a file that are read.
+const MOST: u64 = 64 << 20;
+
+/// The mark of a package in which no name is known.
+const EVERY_NAME: &str = "$";
+
+/// The name of a crate that owns macros: where a manifest may give it to another one, no macro of
+/// such a crate is known.
+const RENAMED_OWNER: &str = "log";
+
+/// What the source files of the package of the last file say: all those below its folder.
+#[derive(Drop)]
+pub struct PackageSources {
+    /// The folder of the package, or nothing if it is of none, or is not read.
+    folder: String,
+    /// Their facts about names of macros, or those of the file if it is in no package.
+    pub facts: Facts,
+    /// Whether the package allows `clippy::uninlined_format_args` in all files.
+    pub allows_arguments: bool,
+    /// Whether the package allows `named_arguments_used_positionally` in all files.
+    pub allows_positions: bool,
+}
+
+/// Returns the text of a file, or its first 64 MiB and a byte more. Fails if it cannot be read.
+fn read_text(rt: &HostRuntime, path: &str) -> io::Result<String> {
+    let mut text = String::new(rt.alloc());
+    fs::open(rt, path)?
+        .take(MOST + 1)
+        .read_to_string(&mut text)?;
+    Ok(text)
+}
+
+/// Returns whether a package gives a crate on which it depends another name than its own.
+fn renames(package: &Package) -> bool {
+    for dependency in &package.dependencies {
+        let name = dependency.name.as_str();
+        let mut rest = name.chars();
+        for c in dependency.package.as_str().chars() {
+            if rest.next() != Some(if c == '-' { '_' } else { c }) {
+                return true;
+            }
+        }
+        if rest.next().is_some() {
+            return true;
+        }
+    }
+    false
+}
+
+/// Returns whether a failure to read a file says nothing of it: the compiler cannot read it either,
+/// so it is no source file of a package that compiles.
+fn is_no_source(error: &io::Error) -> bool {
+    error.kind() != io::ErrorKind::OutOfMemory
+}
+
+/// Returns whether a file is the root of a library or of a program of the package in a folder.
+fn is_root(folder: &str, path: &str) -> bool {
+    matches!(
+        path.strip_prefix(folder),
+        Some("/src/lib.rs" | "/src/main.rs")
+    )
+}
+
+/// Adds the path of an entry of a folder to `files` or to `folders`, if it is one of a source file
+/// or of a folder. Fails if that is not known.
+fn put_entry(
+    rt: &HostRuntime,
+    folder: &str,
+    entry: &DirEntry<HostRuntime>,
+    files: &mut Vec<String>,
+    folders: &mut Vec<String>,
+) -> io::Result<()> {
+    let name = entry.file_name();
+    let kind = entry.file_type()?;
+    let path = format!(in rt.alloc(); "{folder}/{name}")?;
+    if kind.is_dir() && !is_left_out(name) {
+        folders.push(path)?;
+    } else if kind.is_file() && name.ends_with(".rs") {
+        files.push(path)?;
+    }
+    Ok(())
+}
+
+/// Adds the paths of the source files of a folder to `files`, and those of folders to `folders`.
+/// Fails if an allocation fails.
+fn put_entries(
+    rt: &HostRuntime,
+    folder: &str,
+    files: &mut Vec<String>,
+    folders: &mut Vec<String>,
+) -> io::Result<()> {
+    for entry in fs::read_dir(rt, folder)? {
+        let result = match entry {
+            Ok(entry) => put_entry(rt, folder, &entry, files, folders),
+            Err(error) => Err(error),
+        };
+        match result {
+            Err(error) if !is_no_source(&error) => return Err(error),
+            _ => {}
+        }
+    }
+    Ok(())
+}
+
+impl PackageSources {
+    /// Returns what no file says.
+    pub fn new(rt: &HostRuntime) -> PackageSources {
+        PackageSources {
+            folder: String::new(rt.alloc()),
+            facts: Facts::new(rt.alloc()),
+            allows_arguments: false,
+            allows_positions: false,
+        }
+    }
+
+    /// Adds a name that may be another macro's. Returns `Err` if an allocation fails.
+    fn add_name(&mut self, rt: &HostRuntime, name: &str) -> Result<(), AllocError> {
+        let facts = mem::replace(&mut self.facts, Facts::new(rt.alloc()));
+        self.facts = facts.with_name(name)?;
+        Ok(())
+    }
+
+    /// Adds what a text says, of the root of a library or a program or of another file. Returns
+    /// `Err` if an allocation fails.
+    fn add_text(&mut self, rt: &HostRuntime, text: &str, is_root: bool) -> Result<(), AllocError> {
+        let facts = mem::replace(&mut self.facts, Facts::new(rt.alloc()));
+        self.facts = facts.with_file(text)?;
+        let arguments = allowed_parts(rt.alloc(), text, Lint::Arguments)?;
+        if arguments.has_module || is_root && arguments.is_whole {
+            self.allows_arguments = true;
+        }
+        let positions = allowed_parts(rt.alloc(), text, Lint::Positions)?;
+        if positions.has_module || is_root && positions.is_whole {
+            self.allows_positions = true;
+        }
+        Ok(())
+    }
+
+    /// Adds what the file of a path says. Of one that is too long every name is unknown. Returns
+    /// `Err` if an allocation fails.
+    fn add_path(&mut self, rt: &HostRuntime, path: &str, is_root: bool) -> Result<(), AllocError> {
+        match read_text(rt, path) {
+            Ok(text) if text.len() as u64 <= MOST => self.add_text(rt, text.as_str(), is_root),
+            Err(error) if is_no_source(&error) => Ok(()),
+            _ => self.add_name(rt, EVERY_NAME),
+        }
+    }
+
+    /// Adds what all source files below a folder say: those that a run over it reads. Returns `Err`
+    /// if an allocation fails.
+    fn add_folder(&mut self, rt: &HostRuntime, package_folder: &str) -> Result<(), AllocError> {
+        let mut folders = Vec::new(rt.alloc());
+        folders.push(String::from_str(rt.alloc(), package_folder)?)?;
+        for _ in 0..u64::MAX {
+            let Some(folder) = folders.pop() else {
+                break;
+            };
+            let mut files = Vec::new(rt.alloc());
+            match put_entries(rt, folder.as_str(), &mut files, &mut folders) {
+                Err(error) if !is_no_source(&error) => self.add_name(rt, EVERY_NAME)?,
+                _ => {}
+            }
+            for path in &files {
+                let path = path.as_str();
+                self.add_path(rt, path, is_root(package_folder, path))?;
+            }
+        }
+        Ok(())
+    }
+
+    /// Reads what a package says, of which a file has this text: all source files below its folder.
+    /// Without a package it is what the text alone says. Returns `Err` if an allocation fails.
+    pub fn read(
+        &mut self,
+        rt: &HostRuntime,
+        package: Option<&Package>,
+        text: &str,
+    ) -> Result<(), AllocError> {
+        let Some(package) = package else {
+            *self = PackageSources::new(rt);
+            return self.add_text(rt, text, false);
+        };
+        let folder = package.folder.as_str();
+        if self.folder.as_str() == folder && !folder.is_empty() {
+            return Ok(());
+        }
+        *self = PackageSources::new(rt);
+        self.add_folder(rt, if folder.is_empty() { "/" } else { folder })?;
+        if renames(package) {
+            self.add_name(rt, RENAMED_OWNER)?;
+        }
+        self.folder = String::from_str(rt.alloc(), folder)?;
+        Ok(())
+    }
+
+    /// Reads what a package says, with a text that no file of it has to have. Returns `Err` if an
+    /// allocation fails.
+    pub fn read_with(
+        &mut self,
+        rt: &HostRuntime,
+        package: Option<&Package>,
+        text: &str,
+    ) -> Result<(), AllocError> {
+        self.read(rt, package, text)?;
+        if package.is_some() {
+            self.folder.clear();
+            self.add_text(rt, text, false)?;
+        }
+        Ok(())
+    }
+}
