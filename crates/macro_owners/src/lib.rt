@@ -10,3 +10,4 @@ mod words;
 
 pub use certain::{certain_table, is_certain, likely_table};
 pub use facts::Facts;
+pub use words::{is_mark, is_named};

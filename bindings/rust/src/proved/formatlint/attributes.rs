@@ -3,7 +3,8 @@
 // Extracted from crates/formatlint/src/attributes.rt by tools/extract: not to be edited.
 // That source has the contracts, and is proved. That this text means the same is only tested.
 
-use crate::proved::format_calls::{is_mark_of, is_word, word};
+use crate::proved::format_calls::is_mark_of;
+use crate::proved::macro_owners::{is_mark, is_named};
 use crate::proved::manifest::{captures_variables, version_named};
 use crate::proved::rust_trees::{Side, Token, Tokens};
 use crate::shim::alloc::AllocError;
@@ -21,7 +22,7 @@ pub enum Lint {
 
 /// The parts of a file in which a lint is allowed.
 pub struct AllowedParts {
-    /// Their ranges of byte offsets.
+    /// Their ranges of byte offsets, in order. They do not overlap.
     pub ranges: Vec<Range<usize>>,
     /// Whether an attribute of the whole file allows it.
     pub is_whole: bool,
@@ -73,22 +74,6 @@ struct Scan<'a> {
     depth: usize,
     open_parts: Vec<OpenPart>,
     found: AllowedParts,
-}
-
-/// Returns whether a token is this word.
-fn is_named(token: Option<Token<'_>>, name: &str) -> bool {
-    match token {
-        Some(token) => is_word(&token) && word(&token) == name.as_bytes(),
-        None => false,
-    }
-}
-
-/// Returns whether a token is this character of punctuation.
-fn is_mark(token: Option<Token<'_>>, mark: u8) -> bool {
-    match token {
-        Some(token) => is_mark_of(&token, mark),
-        None => false,
-    }
 }
 
 /// Returns whether a token is a name of the lint, or of the group that it is in.
@@ -165,11 +150,19 @@ impl<'a> Scan<'a> {
         Ok(())
     }
 
-    /// Ends the last open part before a byte offset.
+    /// Ends the last open part before a byte offset. Parts in it are left out.
     fn end_part(&mut self, end: usize) -> Result<(), AllocError> {
-        if let Some(part) = self.open_parts.pop() {
-            self.found.ranges.try_push(part.start..end)?;
+        let Some(part) = self.open_parts.pop() else {
+            return Ok(());
+        };
+        for _ in 0..u64::MAX {
+            match self.found.ranges.last() {
+                Some(last) if last.start >= part.start => {}
+                _ => break,
+            }
+            let _ = self.found.ranges.pop();
         }
+        self.found.ranges.try_push(part.start..end)?;
         Ok(())
     }
 
@@ -279,8 +272,11 @@ pub fn allowed_parts(text: &str, lint: Lint) -> Result<AllowedParts, AllocError>
                 None => break,
             }
         }
-        for part in &scan.open_parts {
-            scan.found.ranges.try_push(part.start..text.len())?;
+        for _ in 0..u64::MAX {
+            if scan.open_parts.is_empty() {
+                break;
+            }
+            scan.end_part(text.len())?;
         }
     }
     Ok(scan.found)
@@ -289,11 +285,21 @@ pub fn allowed_parts(text: &str, lint: Lint) -> Result<AllowedParts, AllocError>
 impl AllowedParts {
     /// Returns whether the lint is allowed at a byte offset.
     pub fn has(&self, offset: usize) -> bool {
-        for range in &self.ranges {
-            if range.start <= offset && offset < range.end {
-                return true;
+        let mut start = 0usize;
+        let mut end = self.ranges.len();
+        // (each turn halves what is left)
+        for _ in 0..64 {
+            let middle = start.saturating_add(end.saturating_sub(start) / 2);
+            match self.ranges.get(middle) {
+                Some(range) if range.end <= offset && middle < end => {
+                    start = middle.saturating_add(1);
+                }
+                _ => end = middle,
             }
         }
-        false
+        match self.ranges.get(end) {
+            Some(range) => range.start <= offset && offset < range.end,
+            None => false,
+        }
     }
 }

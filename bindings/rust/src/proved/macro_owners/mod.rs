@@ -12,3 +12,4 @@ pub(crate) mod words;
 
 pub use certain::{certain_table, likely_table};
 pub use facts::Facts;
+pub use words::{is_mark, is_named};
