@@ -6,7 +6,7 @@ use crate::files::Run;
 use crate::reading::Origin;
 use crate::rewrites::may_call_others;
 use macro_owners::{Facts, likely_table};
-use manifest::FileRules;
+use manifest::{FileRules, Package, Packages};
 use source_lint::file_faults;
 use source_report::{Finding, Options, Report};
 use std::alloc::{AllocError, Global};
@@ -37,6 +37,11 @@ fn drop_unlikely(
     Ok(())
 }
 
+/// Returns the package of a file of which the project says this, or `None` if it is of none.
+fn package_of(packages: &Packages, rules: FileRules) -> Option<&Package> {
+    packages.package(rules.package?)
+}
+
 /// Returns whether one of these is a warning that a named argument is used by its index.
 fn has_position(findings: &[Finding]) -> bool {
     for finding in findings {
@@ -56,10 +61,7 @@ impl<'a> Run<'a> {
         origin: Origin<'_>,
         rules: FileRules,
     ) -> Result<(), AllocError> {
-        let package = match rules.package {
-            Some(index) => self.packages.package(index),
-            None => None,
-        };
+        let package = package_of(&self.packages, rules);
         if matches!(origin, Origin::Stdin) {
             self.sources.read_with(rt, package, text)
         } else {

@@ -91,7 +91,8 @@ impl<'a> Run<'a> {
     ) -> Result<(), Failure> {
         let mut outcome = self.rewritten(rt, text, origin, rules)?;
         let is_source = matches!(origin, Origin::Stdin) && change == Change::Write;
-        let Some(new) = &outcome.text else {
+        let new_text = outcome.text.take();
+        let Some(new) = &new_text else {
             if is_source {
                 write_shown(rt, text.as_bytes())?;
             }

@@ -9,7 +9,7 @@ use crate::proved::formatlint::files::Run;
 use crate::proved::formatlint::reading::Origin;
 use crate::proved::formatlint::rewrites::may_call_others;
 use crate::proved::macro_owners::{likely_table, Facts};
-use crate::proved::manifest::FileRules;
+use crate::proved::manifest::{FileRules, Package, Packages};
 use crate::proved::source_lint::file_faults;
 use crate::proved::source_report::{Finding, Options, Report};
 use crate::shim::alloc::AllocError;
@@ -38,6 +38,12 @@ fn drop_unlikely(
     Ok(())
 }
 
+/// Returns the package of a file of which the project says this, or `None` if it is of none.
+#[inline]
+fn package_of(packages: &Packages, rules: FileRules) -> Option<&Package> {
+    packages.package(rules.package?)
+}
+
 /// Returns whether one of these is a warning that a named argument is used by its index.
 fn has_position(findings: &[Finding]) -> bool {
     for finding in findings {
@@ -57,10 +63,7 @@ impl<'a> Run<'a> {
         origin: Origin<'_>,
         rules: FileRules,
     ) -> Result<(), AllocError> {
-        let package = match rules.package {
-            Some(index) => self.packages.package(index),
-            None => None,
-        };
+        let package = package_of(&self.packages, rules);
         if matches!(origin, Origin::Stdin) {
             self.sources.read_with(rt, package, text)
         } else {
