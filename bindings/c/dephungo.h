@@ -3,11 +3,12 @@
  *
  * One call, dephungo_read, reads a whole input and writes the results into buffers of the
  * caller. The library owns nothing and keeps nothing after the call, so calls may run at once in
- * several threads, if none writes what another one reads or writes. A record is plain
- * integers: any memory of its size may be passed, and a copy of it stays valid as long as the
- * input and the texts do. A field whose comment begins with constants, such as TEXT, has a value
- * only where the record has one of them, and a range with a flag, such as place with has_place,
- * only where that is not 0: elsewhere its bytes are unspecified.
+ * several threads, if none writes what another one reads or writes. The call uses malloc, realloc
+ * and free, so it may not be made in a signal handler. A record is plain integers: any memory of
+ * its size may be passed, and a copy of it stays valid as long as the input and the texts do. A
+ * field whose comment begins with constants, such as TEXT, has a value only where the record has
+ * one of them, and a range with a flag, such as place with has_place, only where that is not 0:
+ * elsewhere its bytes are unspecified.
  * The snippet is the string literal that the input comes from, as it is in the source. If it
  * stands for the input, it is the source literal of the input.
  * A range of the input is in byte offsets of the input. A range in the source is in byte
@@ -23,6 +24,8 @@
 
 /* the version of the header and of its library, as in CHANGELOG.md */
 #define DEPHUNGO_VERSION "0.3.0"
+/* the same as one number: 1,000,000 times its first number, 1,000 times its second one, and its third one */
+#define DEPHUNGO_VERSION_NUMBER 3000
 
 #ifdef __cplusplus
 extern "C" {
@@ -198,8 +201,7 @@ typedef struct dephungo_answer {
     uint8_t is_source_literal; /* not 0 if the snippet is the source literal of the input */
 } dephungo_answer;
 
-/* the buffers that get the results, each with its room in records or, for texts, in bytes; in the proved library no pointer may be
- * null, even if its room is 0 */
+/* the buffers that get the results, each with its room in records or, for texts, in bytes; one with the room 0 may be NULL */
 typedef struct dephungo_buffers {
     dephungo_step *steps;   /* the calls of the parser, in order */
     size_t step_room;
@@ -227,16 +229,13 @@ enum {
 };
 
 /* dephungo_read reads a whole input and returns one of the codes above, such as DEPHUNGO_DONE.
- * input:    the input in UTF-8, unescaped and without quotes
- * snippet:  the source text in UTF-8; ignored if has_snippet is 0: then pass any pointer but NULL,
- *           such as that of the input, and the length 0
+ * input:    the input in UTF-8, unescaped and without quotes; NULL with the length 0 is an empty one
+ * snippet:  the source text in UTF-8; ignored if has_snippet is 0: then pass NULL and 0
  * options:  how to read the input
  * buffers:  where the results are written; this record itself is only read, so it may be used again
  * answer:   the lengths of the results
  *
- * In the proved library no pointer may be null, even if its length or room is 0, since no proof is about such a pointer. In
- * that of bindings/c/portable NULL with the length or the room 0 is an empty text or buffer. What the call writes may not
- * overlap anything else. */
+ * No other pointer may be NULL. What the call writes may not overlap anything else. */
 uint32_t dephungo_read(
     const uint8_t *input, size_t input_length,
     const uint8_t *snippet, size_t snippet_length,
@@ -244,13 +243,61 @@ uint32_t dephungo_read(
     dephungo_buffers *buffers,
     dephungo_answer *answer);
 
-/* These two are in the library of bindings/c/portable alone: with them a program sees that the library has another version than
- * the header that it was compiled with.
- *
- * the version of the library, as DEPHUNGO_VERSION */
-const char *dephungo_version(void);
-/* the size in bytes of the record with this name, such as "dephungo_step", or 0 if there is none; not NULL */
-size_t dephungo_size_of(const char *record);
+/* The proof is about calls without NULL. So a call of dephungo_read in C or C++ is one of this function, which puts another
+ * pointer in place of each whose length or room is 0, and then calls the library. A caller without this header, as in another
+ * language, passes no NULL. */
+static inline uint32_t dephungo_read_nullable(
+    const uint8_t *input, size_t input_length,
+    const uint8_t *snippet, size_t snippet_length,
+    const dephungo_options *options,
+    dephungo_buffers *buffers,
+    dephungo_answer *answer) {
+    size_t nothing = 0;
+    dephungo_buffers given = *buffers;
+    if (!input_length) input = (const uint8_t *)&nothing;
+    if (!snippet_length) snippet = (const uint8_t *)&nothing;
+    if (!given.step_room) given.steps = (dephungo_step *)&nothing;
+    if (!given.spec_room) given.specs = (dephungo_spec *)&nothing;
+    if (!given.fault_room) given.faults = (dephungo_fault *)&nothing;
+    if (!given.text_room) given.texts = (uint8_t *)&nothing;
+    if (!given.line_room) given.lines = (dephungo_range *)&nothing;
+    if (!given.peek_room) given.peeks = (dephungo_peek *)&nothing;
+    return dephungo_read(input, input_length, snippet, snippet_length, options, &given, answer);
+}
+#define dephungo_read dephungo_read_nullable
+
+/* the version of the library, which is the DEPHUNGO_VERSION_NUMBER of its own header */
+uint32_t dephungo_version(void);
+
+/* the records whose sizes the library tells */
+enum {
+    DEPHUNGO_RECORD_RANGE = 0,
+    DEPHUNGO_RECORD_PEEK = 1,
+    DEPHUNGO_RECORD_OPTIONS = 2,
+    DEPHUNGO_RECORD_SPEC = 3,
+    DEPHUNGO_RECORD_STEP = 4,
+    DEPHUNGO_RECORD_FAULT = 5,
+    DEPHUNGO_RECORD_ANSWER = 6,
+    DEPHUNGO_RECORD_BUFFERS = 7,
+};
+
+/* the size in bytes that a record has in the library
+ * record: one of the RECORD constants; for another number the size is 0 */
+size_t dephungo_size_of(uint32_t record);
+
+/* Returns 0 if the library is not the one of this header: the first or the second number of its version differs, or the size
+ * of a record. Then dephungo_read may not be called. A program that uses the shared library asks this when it starts. */
+static inline int dephungo_fits_header(void) {
+    return dephungo_version() / 1000 == DEPHUNGO_VERSION_NUMBER / 1000
+        && dephungo_size_of(DEPHUNGO_RECORD_RANGE) == sizeof(dephungo_range)
+        && dephungo_size_of(DEPHUNGO_RECORD_PEEK) == sizeof(dephungo_peek)
+        && dephungo_size_of(DEPHUNGO_RECORD_OPTIONS) == sizeof(dephungo_options)
+        && dephungo_size_of(DEPHUNGO_RECORD_SPEC) == sizeof(dephungo_spec)
+        && dephungo_size_of(DEPHUNGO_RECORD_STEP) == sizeof(dephungo_step)
+        && dephungo_size_of(DEPHUNGO_RECORD_FAULT) == sizeof(dephungo_fault)
+        && dephungo_size_of(DEPHUNGO_RECORD_ANSWER) == sizeof(dephungo_answer)
+        && dephungo_size_of(DEPHUNGO_RECORD_BUFFERS) == sizeof(dephungo_buffers);
+}
 
 #ifdef __cplusplus
 }

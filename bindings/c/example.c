@@ -10,18 +10,15 @@ int main(int argc, char **argv) {
     dephungo_spec specs[32];
     dephungo_fault faults[16];
     uint8_t texts[4096];
-    dephungo_range lines[1]; /* without a snippet there are no lines */
-    dephungo_peek peeks[1];  /* with the room 0, none are written */
-    dephungo_buffers buffers = {
+    dephungo_buffers buffers = { /* (without a snippet there are no lines, and peeks are not wanted) */
         .steps = steps, .step_room = 64,
         .specs = specs, .spec_room = 32,
         .faults = faults, .fault_room = 16,
         .texts = texts, .text_room = sizeof texts,
-        .lines = lines, .line_room = 1,
-        .peeks = peeks, .peek_room = 0,
     };
     dephungo_answer answer;
-    uint32_t code = dephungo_read((const uint8_t *)input, strlen(input), (const uint8_t *)"", 0, &options, &buffers, &answer);
+    if (!dephungo_fits_header()) return fprintf(stderr, "the library has another version than the header\n"), 2;
+    uint32_t code = dephungo_read((const uint8_t *)input, strlen(input), NULL, 0, &options, &buffers, &answer);
     if (code == DEPHUNGO_SHORT) fprintf(stderr, "%zu steps and %zu faults are too many here\n", answer.steps, answer.faults);
     if (code != DEPHUNGO_DONE) return fprintf(stderr, "code %u\n", (unsigned)code), 2;
     for (size_t i = 0; i < answer.steps; i++) {

@@ -14,7 +14,6 @@ struct Reading {
     std::vector<dephungo_spec> specs;
     std::vector<dephungo_fault> faults;
     std::string texts;
-    std::vector<dephungo_range> lines;
     dephungo_answer answer{};
     std::uint32_t code = DEPHUNGO_SHORT;
 };
@@ -25,22 +24,21 @@ Reading read(const std::string &input) {
     const auto text = reinterpret_cast<const std::uint8_t *>(input.data());
     dephungo_options options{};
     options.mode = DEPHUNGO_MODE_FORMAT;
-    dephungo_peek none;
-    std::size_t room[5] = {1, 1, 1, 1, 1};
     for (int call = 0; call < 2 && it.code == DEPHUNGO_SHORT; call++) {
-        it.steps.resize(room[0]);
-        it.specs.resize(room[1]);
-        it.faults.resize(room[2]);
-        it.texts.resize(room[3]);
-        it.lines.resize(room[4]);
-        const auto texts = reinterpret_cast<std::uint8_t *>(&it.texts[0]);
-        dephungo_buffers buffers = {it.steps.data(), room[0], it.specs.data(), room[1], it.faults.data(), room[2],
-                                    texts,           room[3], it.lines.data(), room[4], &none,            0};
-        // (there is no snippet: its pointer may be any that is not null)
-        it.code = dephungo_read(text, input.size(), text, 0, &options, &buffers, &it.answer);
-        const std::size_t needed[5] = {it.answer.steps, it.answer.specs, it.answer.faults, it.answer.texts,
-                                       it.answer.lines};
-        for (int at = 0; at < 5; at++) room[at] = needed[at] > room[at] ? needed[at] : room[at];
+        it.steps.resize(it.answer.steps);
+        it.specs.resize(it.answer.specs);
+        it.faults.resize(it.answer.faults);
+        it.texts.resize(it.answer.texts);
+        dephungo_buffers buffers{};
+        buffers.steps = it.steps.data();
+        buffers.step_room = it.steps.size();
+        buffers.specs = it.specs.data();
+        buffers.spec_room = it.specs.size();
+        buffers.faults = it.faults.data();
+        buffers.fault_room = it.faults.size();
+        buffers.texts = reinterpret_cast<std::uint8_t *>(&it.texts[0]);
+        buffers.text_room = it.texts.size();
+        it.code = dephungo_read(text, input.size(), nullptr, 0, &options, &buffers, &it.answer);
     }
     return it;
 }

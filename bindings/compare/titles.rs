@@ -1,32 +1,32 @@
-//! The calls of the rows of crates/tests_calls, the calls of `asm!` and the texts of attributes of
-//! crates/tests_asm, each in a file, over the crate of bindings/rust: what is wrong with them has the
-//! titles that rustc gives it, and the labels, the notes and the help under these. The tables are read
-//! as they stand there.
+//! The calls of the rows of crates/tests_calls, also those of `asm!`, and the texts of attributes there,
+//! each in a file, over the crate of bindings/rust: what is wrong with them has the titles that rustc
+//! gives it, and the labels, the notes and the help under these. The tables are read as they stand
+//! there.
 use dephungo::source::{call_faults, calls, file_faults};
 use dephungo::source::{CallArgument, CallFault, Finding, FormatString, FormatArgument, Table};
 use std::ops::Range;
 
-#[path = "../../crates/tests_calls/src/missing_rows.rt"]
+#[path = "../../crates/tests_calls/src/calls/missing_rows.rt"]
 mod missing_rows;
-#[path = "../../crates/tests_calls/src/name_rows.rt"]
+#[path = "../../crates/tests_calls/src/calls/name_rows.rt"]
 mod name_rows;
-#[path = "../../crates/tests_asm/src/operand_rows.rt"]
+#[path = "../../crates/tests_calls/src/asm/operand_rows.rt"]
 mod operand_rows;
-#[path = "../../crates/tests_asm/src/reference_rows.rt"]
+#[path = "../../crates/tests_calls/src/asm/reference_rows.rt"]
 mod reference_rows;
-#[path = "../../crates/tests_asm/src/rows.rt"]
+#[path = "../../crates/tests_calls/src/asm/rows.rt"]
 mod rows;
-#[path = "../../crates/tests_calls/src/shown_rows.rt"]
+#[path = "../../crates/tests_calls/src/calls/shown_rows.rt"]
 mod shown_rows;
-#[path = "../../crates/tests_calls/src/string_rows.rt"]
+#[path = "../../crates/tests_calls/src/calls/string_rows.rt"]
 mod string_rows;
-#[path = "../../crates/tests_asm/src/template_rows.rt"]
+#[path = "../../crates/tests_calls/src/asm/template_rows.rt"]
 mod template_rows;
-#[path = "../../crates/tests_asm/src/text_rows.rt"]
+#[path = "../../crates/tests_calls/src/asm/text_rows.rt"]
 mod text_rows;
-#[path = "../../crates/tests_calls/src/rows.rt"]
+#[path = "../../crates/tests_calls/src/calls/rows.rt"]
 mod title_rows;
-#[path = "../../crates/tests_calls/src/unused_rows.rt"]
+#[path = "../../crates/tests_calls/src/calls/unused_rows.rt"]
 mod unused_rows;
 
 /// What is in front of the literal in a file.
@@ -94,7 +94,7 @@ fn labels_of(front: &str, finding: &Finding) -> String {
     lines.concat()
 }
 
-/// The findings of a file, each with its title, as a row of crates/tests_asm has them.
+/// The findings of a file, each with its title, as a row of crates/tests_calls has them.
 fn answers(front: &str, file: &str) -> Vec<String> {
     let findings = file_faults(file, &Table::standard(), true).findings;
     findings.iter().map(|it| format!("{}\n{}", it.title, labels_of(front, it))).collect()

@@ -12,10 +12,11 @@ TOP = Path(__file__).resolve().parent.parent.parent
 RUST = TOP / "bindings/rust/src"
 CRATES = ("rustc_parse_format", "placeholder_check", "format_tokens", "fault_fixes", "drawn_lines", "shown_text",
           "drawn_labels", "drawn_edits", "drawn_faults", "rust_tokens", "rust_trees",
-          "format_calls", "call_forms", "source_report", "text_faults", "call_faults", "asm_faults",
-          "message_faults", "piece_listing", "listing_json", "literal_faults", "format_literal",
+          "format_calls", "call_forms", "source_report", "diagnostic", "text_faults", "text_diagnostics",
+          "call_faults", "asm_faults", "message_faults", "piece_listing", "listing_json", "literal_faults", "format_literal",
           "format_lint", "lint_words", "asm_lint", "source_lint", "file_fixes", "inlined_arguments",
-          "file_inlines", "macro_owners", "unified_diff", "fault_rules", "message_forms", "manifest",
+          "file_inlines", "macro_owners", "own_macros", "file_paths", "unified_diff", "fault_rules", "message_forms",
+          "manifest",
           "finding_forms",
           "lint_program", "formatread", "formatlint")
 # The features of the crate for Rust, each with those before it.
@@ -24,8 +25,11 @@ FEATURES = ("lint", "programs")
 GATED = re.compile(r'#\[cfg\(feature = "(\w+)"\)\]\s*(?:#\[.*\]\s*)*(?:pub )?mod (\w+);')
 # The crates of which each function can be inlined: those that read the bytes of all texts and files
 INLINED = ("rustc_parse_format", "rust_tokens", "rust_trees")
-# How many tokens the body of a function may have that can be inlined in another crate
-SHORT = 20
+# Others, whose functions run for each token of a file or each character that is drawn
+FREQUENT = ("format_calls", "macro_owners", "call_forms", "source_lint", "drawn_lines", "drawn_labels",
+            "shown_text")
+# How many tokens the body of a function may have that can be inlined in another crate, or at all
+SHORT, LONG = 20, 40
 NOTICE = """\
 // Extracted from {place} by tools/extract: not to be edited.
 // That source has the contracts, and is proved. That this text means the same is only tested.
@@ -254,13 +258,24 @@ class Needs:
                         self.items.add((source.path, item.name))
 
     def note_passed(self):
-        """Notes what the modules import through others, with the features that they are there with."""
-        for module, self.rank in self.ranks.items():
-            source = self.files[module]
-            for item in source.items:
-                for part in [it for it in item.parts if it.is_kept] or [item]:
-                    if part.is_kept:
-                        self.add(source, part)
+        """Notes what the modules import through others, with the features that they are there with. A
+        module that another one names is there with each feature that that one is there with."""
+        module_at = {it.path: module for module, it in self.files.items()}
+        grown = True
+        while grown:
+            grown = False
+            for module, self.rank in list(self.ranks.items()):
+                source, items = self.files[module], self.items
+                self.items = set()
+                for item in source.items:
+                    for part in [it for it in item.parts if it.is_kept] or [item]:
+                        if part.is_kept:
+                            self.add(source, part)
+                for named in {module_at.get(path) for path, _ in self.items}:
+                    if self.ranks.get(named, 0) > self.rank:
+                        self.ranks[named] = self.rank
+                        grown = True
+                self.items |= items
 
     def passed_in(self, path):
         """The names that are imported through a file, with the ranks of their features."""
@@ -381,8 +396,9 @@ def item_rewritten(source, item, crates, empty, cloned):
 
 
 def head_of(source, item):
-    """Lets a short function be inlined, and each that reads bytes, if no attribute says otherwise: rustc
-    compiles a crate in parts, and Rattle as a whole. More would double the time that rustc takes."""
+    """Lets a short function be inlined, and each that reads bytes, but no long one that is called seldom,
+    if no attribute says otherwise: rustc compiles a crate in parts, and Rattle as a whole. With all of
+    them inlined rustc takes twice the time, and some 15 % more where it may inline long ones."""
     if item.kind == "fn":
         if (source.name, item.name) == ("main.rt", "main"):
             # a program of the crate for Rust calls it
@@ -392,9 +408,14 @@ def head_of(source, item):
                 # what calls the crates stands outside of them
                 source.tokens[at].text = "crate"
         words = source.texts(item.start, item.head)
-        is_short = source.crate in INLINED or len(source.places(item.open, item.last)) <= SHORT
-        if is_short and "inline" not in words:
-            source.tokens[item.start].text = "#[inline]\n" + source.tokens[item.start].text
+        length = len(source.places(item.open, item.last))
+        attribute = ""
+        if source.crate in INLINED or length <= SHORT:
+            attribute = "#[inline]\n"
+        elif length > LONG and source.crate not in FREQUENT:
+            attribute = "#[inline(never)]\n"
+        if "inline" not in words:
+            source.tokens[item.start].text = attribute + source.tokens[item.start].text
 
 
 def derives(source, item, cloned):

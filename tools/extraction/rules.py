@@ -8,7 +8,8 @@ from extraction.source import Import
 
 # The paths of the library that may be named, and those that replace them. Any other is refused. A
 # source that reads the parser by its calls reads that of the layer, so that there is one.
-LIBRARY = {"clap": "crate::shim::clap", "itoa": "crate::shim::itoa",
+LIBRARY = {"clap": "crate::shim::clap", "file_paths::args": "crate::shim::host::env::words",
+           "file_paths::fs": "crate::shim::host::fs", "itoa": "crate::shim::itoa",
            "json": "crate::shim::json",
            "rustc_parse_format::Parser": "crate::shim::parser::Parser",
            "rustc_parse_format::Reading": "crate::shim::parser::Reading",
@@ -103,7 +104,7 @@ KEYWORDS = ("else", "if", "in", "match", "return", "while")
 # Methods of the library that do the same in both languages, and on each Unicode version but for
 # white space. Others that are called are those of the crates or of the shim.
 PLAIN_METHODS = set("""
-all as_bytes as_deref as_millis as_ref as_slice as_str capacity chars checked_add checked_mul contains copied
+all as_bytes as_deref as_millis as_ref as_slice as_str binary_search_by_key capacity chars checked_add checked_mul contains copied
 get_mut ends_with enumerate error_len get is_ascii is_ascii_alphanumeric is_ascii_digit is_ascii_hexdigit
 is_ascii_lowercase is_dir is_empty is_err is_file is_none is_ok is_some is_whitespace iter kind last
 len len_utf8 lines map map_or max min next next_back ok or permissions pop read_to_end

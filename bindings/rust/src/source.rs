@@ -333,10 +333,12 @@ pub fn file_faults(text: &str, table: &Table<'_>, is_from_2021: bool) -> Report 
 /// applicable by a machine, but for two: an argument that can be removed, since a comma stays, and the
 /// macro `dbg!` in the place of another one.
 ///
-/// Suggestions are applied until none is left, in at most sixteen rounds. A round is left out, and is
-/// the last, if the file then breaks, has another number of calls or more faults, lacks a fault that
-/// the round does not mend, or has other tokens where no edit is. A file that breaks stays as it is.
-/// An allocation failure aborts, as elsewhere in Rust.
+/// Suggestions are applied until none is left, in at most sixteen rounds, or as many as read 16 MiB
+/// together. A round mends all raw identifiers, missing colons and late flags of a format string, and
+/// one field or index. A round is left out, and is the last, if an edit is outside of the call of its fault, or
+/// if the file then breaks, has another number of calls or more faults, has a fault that the round
+/// mends, lacks one that it does not, or has other tokens where no edit is. A file that breaks stays
+/// as it is. An allocation failure aborts, as elsewhere in Rust.
 ///
 /// ```
 /// use dephungo::source::{file_fixes, Table};
@@ -345,7 +347,7 @@ pub fn file_faults(text: &str, table: &Table<'_>, is_from_2021: bool) -> Report 
 /// let fixes = file_fixes(text, &Table::standard(), true);
 /// let fixed = "fn f() { print!(\"{a:?} {type}\"); print!(\"{0}\", self.name); }";
 /// assert_eq!(fixes.text.as_deref(), Some(fixed));
-/// assert_eq!(fixes.ids, ["missing-colon", "field-access", "raw-identifier"]);
+/// assert_eq!(fixes.ids, ["missing-colon", "raw-identifier", "field-access"]);
 /// assert!(fixes.report.findings.is_empty());
 /// ```
 #[must_use]

@@ -415,6 +415,26 @@ fn fixes() {
     let (text, ids, count) = fixed(&of(&"print!(\"{r#x}\"); ".repeat(20)));
     assert_eq!(text, Some(of(&"print!(\"{x}\"); ".repeat(20))));
     assert_eq!((ids, count), (vec!["raw-identifier"; 20], 0));
+    // (one literal with many faults, of which a reading shows one)
+    let literal = |placeholder: &str| of(&format!("print!(\"{}\");", placeholder.repeat(40)));
+    let (text, ids, count) = fixed(&literal("{r#x}"));
+    assert_eq!(text, Some(literal("{x}")));
+    assert_eq!((ids, count), (vec!["raw-identifier"; 40], 0));
+    // (the others of a string are mended with the one that is shown, and those of no other string)
+    let many = |placeholder: &str| literal(placeholder).replace("x = 1", "x = \"{r#x}{x?}\"");
+    for (old, new, id) in [
+        ("{r#x}", "{x}", "raw-identifier"),
+        ("\\n{x?}\\u{e9}\u{e9}", "\\n{x:?}\\u{e9}\u{e9}", "missing-colon"),
+        ("\r\n{x:?#}", "\r\n{x:#?}", "flag-after-type"),
+        ("\\\r\n  {r#x}\\x7b\n", "\\\r\n  {x}\\x7b\n", "raw-identifier"),
+    ] {
+        let (text, ids, _) = fixed(&many(&old.repeat(100)));
+        assert_eq!(text, Some(many(&new.repeat(100))));
+        assert_eq!(ids, vec![id; 4000]);
+    }
+    let (text, ids, count) = fixed(&literal(&"{r#x}{x?}{{{x:?x}".repeat(100)));
+    assert_eq!(text, Some(literal(&"{x}{x:?}{{{x:x?}".repeat(100))));
+    assert_eq!((ids.len(), count), (12000, 0));
     for (calls, count) in [
         ("print!(\"{x}\", x);", 1),
         ("print!(\"{_}\");", 1),

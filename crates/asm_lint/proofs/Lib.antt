@@ -7,5 +7,6 @@ pub mod FrontSteps
 pub mod Gathering
 pub mod MovedAssembly
 pub mod MovedStrings
+pub mod Noting
 pub mod Openings
 pub mod Widths

@@ -1,9 +1,9 @@
 -- The texts of the attributes `diagnostic::on_unimplemented` of a file, and the findings in them.
 -- The public rule is in the Rust Reference, on diagnostic attributes.
 use Prim.Native.Char.{code}
-use Rattle.std.specs.Prelude.{◌≡◌, ◌≤◌, ◌⊎◌, ◌+◌, ◌++◌, ◌&&◌, ◌||◌, ◌==◌, not, ℕ, Bool, true}
-use Rattle.std.specs.Prelude.{false, List, [], ◌∷◌, Option, Some, None, IfSome, IsTrue, chars}
-use Rattle.std.specs.Prelude.{codes, length, map, option_map, slice_get, string_bytes}
+use Rattle.std.specs.Prelude.{◌≡◌, ◌≤◌, ◌⊎◌, ◌+◌, ◌++◌, ◌&&◌, ◌||◌, ◌==◌, not, ℕ, Bool}
+use Rattle.std.specs.Prelude.{false, List, [], ◌∷◌, Option, Some, None, IsTrue, chars}
+use Rattle.std.specs.Prelude.{codes, length, map, slice_get}
 use Rattle.std.specs.Prelude.{if◌then◌else◌}
 use Rattle.rustc_parse_format.specs.Characters.{Text}
 use Rattle.rustc_parse_format.specs.Literal.{IsLiteral}
@@ -16,10 +16,11 @@ use Rattle.format_calls.specs.Assembly.{is_word_at}
 use Rattle.format_calls.specs.Marks.{is_mark}
 use Rattle.format_calls.specs.Strings.{is_text_leaf}
 use Rattle.format_calls.specs.declared.split.Argument.{Argument}
+use Rattle.message_faults.specs.Diagnostics.{diagnostic}
 use Rattle.message_faults.specs.Messages.{MessageFault, message_faults}
-use Rattle.message_faults.specs.Words.{help, labels, message_id, title}
 use Rattle.source_report.specs.declared.report.Finding.{Finding}
 use Rattle.call_forms.specs.Generics.{parameters}
+use Rattle.asm_lint.specs.Findings.{said, said_by}
 use Rattle.asm_lint.specs.Literals.{without_crs}
 
 -- The token i is this word.
@@ -66,23 +67,9 @@ pub record IsItem (xs : List Leaf) (i : ℕ) (js : List ℕ) (k : ℕ) : Type 0 
   pub parts : Fronts xs i js k
   pub is_all : (j : ℕ) → IsFront xs k j → ⊥
 
--- The finding says what the fault is: its texts are those of the fault, for a trait of this name.
-pub record TellsMessage (name : Text) (f : MessageFault) (x : Finding) : Type 0 where
-  pub is_warning : x.is_warning ≡ true
-  pub id : x.id.now ≡ message_id f
-  pub title : string_bytes x.title ≡ title name f
-  pub are_primary : map (λ l. l.is_primary) x.labels.items ≡ map (λ l. l.is_primary) (labels f)
-  pub label_texts : map (λ l. string_bytes l.text) x.labels.items ≡ map (λ l. l.text) (labels f)
-  pub no_notes : x.notes.items ≡ []
-  pub help_text : option_map (λ h. string_bytes h.text) x.help ≡ help f
-  pub no_edits : IfSome x.help (λ h. h.edits.items ≡ [])
-
--- These findings say what these faults are, one for each.
+-- These findings say what rustc says of these faults, one for each, for a trait of this name.
 abbrev pub TellMessages : Text → List MessageFault → List Finding → Type 0
-TellMessages name [] [] = Unit {0}
-TellMessages name [] (x ∷ xs) = ⊥
-TellMessages name (f ∷ fs) [] = ⊥
-TellMessages name (f ∷ fs) (x ∷ xs) = TellsMessage name f x × TellMessages name fs xs
+TellMessages name fs xs = map said xs ≡ map (λ f. said_by (diagnostic name f)) fs
 
 -- A parser at the start of a text with this literal.
 abbrev pub message_start : Text → Text → State

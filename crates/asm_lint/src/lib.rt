@@ -9,6 +9,7 @@ mod finding_labels;
 mod literals;
 mod messages;
 mod names;
+mod placing;
 mod spans;
 
 pub use assembly::{read_asm, reading_of};

@@ -1,22 +1,22 @@
 //! The findings in the texts of attributes: their faults, in words and with their places in the
 //! file.
 
-ghost use Rattle.std.specs.Prelude.{◌≡◌, ◌++◌, ◌∷◌, [], List, Some, IfOk, IfSome, OnOk, chars, map};
-ghost use Rattle.std.specs.Prelude.{option_map, string_bytes};
+ghost use Rattle.std.specs.Prelude.{◌≡◌, ◌++◌, List, IfOk, OnOk, chars, map};
 ghost use Rattle.std.specs.List.{All};
-ghost use Rattle.message_faults.specs.Messages.{message_faults};
-ghost use Rattle.message_faults.specs.Views.{HasNames, seen_fault, start};
-ghost use Rattle.asm_lint.specs.Attributes.{ReadsText, TellMessages, TellsMessage};
+ghost use Rattle.message_faults.specs.Diagnostics.{diagnostic};
+ghost use Rattle.message_faults.specs.Views.{HasNames, seen_fault};
+ghost use Rattle.asm_lint.specs.Attributes.{ReadsText, TellMessages};
+ghost use Rattle.asm_lint.specs.Findings.{said, said_by};
 ghost use Rattle.asm_lint.specs.Spans.{HasSpans};
 ghost use Rattle.asm_lint.specs.Literals.{without_crs};
 ghost use Rattle.source_report.specs.declared.report.Finding.{Finding as FindingValue};
 
-use crate::finding_labels::{labels, primary_span};
 use crate::literals::{dropped_crs, read_literal};
+use crate::placing::finding_of;
 use crate::spans::Site;
 use message_faults::{Message, MessageFault, message_faults};
 use rust_trees::Token;
-use source_report::{Finding, Help};
+use source_report::Finding;
 use std::alloc::{AllocError, Global};
 use std::collections::BTreeSet;
 
@@ -31,22 +31,6 @@ pub struct Item<'s, 'a> {
     pub names: &'s BTreeSet<&'a str>,
 }
 
-/// Returns a help, which has no edits. Returns `Err` if an allocation fails.
-fn help(alloc: Global, help: Option<&str>) -> Result<Option<Help>, AllocError>
-    ensures text { IfOk result (λ o. option_map (λ h. string_bytes h.text) o
-        ≡ option_map (λ t. t.now) help.entry) }
-    ensures no_edits { IfOk result (λ o. IfSome o (λ h. h.edits.items ≡ [])) }
-{
-    match help {
-        None => Ok(None),
-        Some(help) => {
-            let text = String::from_str(alloc, help)?;
-            let edits = Vec::new(alloc);
-            Ok(Some(Help { text, edits }))
-        }
-    }
-}
-
 /// Returns the finding of a fault, for a trait of this name. Returns `Err` if an allocation fails.
 fn finding(
     alloc: Global,
@@ -54,23 +38,12 @@ fn finding(
     name: &str,
     fault: &MessageFault<'_>,
 ) -> Result<Finding, AllocError>
-    ensures outcome { IfOk result (λ x. TellsMessage (chars name.now) (seen_fault fault.now) x) }
+    ensures said { IfOk result (λ x. said x
+        ≡ said_by (diagnostic (chars name.now) (seen_fault fault.now))) }
     ensures spans { IfOk result (λ x. HasSpans site.entry.text.now x) }
 {
-    let mut title = String::new(alloc);
-    fault.put_title(alloc, &mut title, name)?;
-    let labels = labels(alloc, site, fault.labels(alloc)?)?;
-    let span = primary_span(site, &labels);
-    let help = help(alloc, fault.help())?;
-    Ok(Finding {
-        is_warning: true,
-        id: fault.id(),
-        title,
-        span,
-        labels,
-        notes: Vec::new(alloc),
-        help,
-    })
+    let diagnostic = fault.diagnostic(alloc, name)?;
+    finding_of(alloc, site, diagnostic)
 }
 
 /// Adds the findings of faults, for a trait of this name. Returns `Err` if an allocation fails.

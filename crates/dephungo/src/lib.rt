@@ -2,13 +2,15 @@
 //! results into buffers of the caller.
 #![tactic(auto)]
 
-ghost use Rattle.std.specs.Prelude.{◌≡◌, ◌<◌, IfNone, IfSome, Some};
+ghost use Rattle.std.specs.Prelude.{[], ◌∷◌, ◌≡◌, ◌<◌, IfNone, IfSome, Some, slice_index_or};
 ghost use Rattle.rustc_parse_format.specs.Types.{Mode};
 ghost use Rattle.flat_reading.specs.Interface.{Fits, IsCounted, IsDescribed, IsKept, SameBuffers};
 ghost use Rattle.flat_reading.specs.Interface.{contents, first_state_of, mode_meant, refusal};
 
 use flat_reading::read::{Buffers, read};
-use flat_reading::records::{Answer, DONE, NO_MEMORY, Options, SHORT};
+use flat_reading::records::{
+    Answer, DONE, Extent, Fault, NO_MEMORY, Options, Peek, SHORT, Spec, Step,
+};
 use flat_reading::task::task_of;
 use std::alloc::Global;
 
@@ -64,5 +66,36 @@ pub extern "C" fn dephungo_read(
         DONE
     } else {
         SHORT
+    }
+}
+
+/// Returns the version of the library, and of the header that describes it, as one number:
+/// 1,000,000 times its first number, 1,000 times its second one, and its third one.
+#[unsafe(no_mangle)]
+pub extern "C" fn dephungo_version() -> u32
+    ensures { result ≡ 3000 }
+{
+    3_000
+}
+
+/// Returns how many bytes a record has that is shared with C, for one of the numbers that the
+/// header gives the records, and 0 for another number.
+#[unsafe(no_mangle)]
+pub extern "C" fn dephungo_size_of(record: u32) -> usize
+    ensures { result ≡ slice_index_or (16 ∷ 40 ∷ 24 ∷ 176 ∷ 96 ∷ 144 ∷ 56 ∷ 96 ∷ []) «record» 0 }
+{
+    let sizes = [
+        size_of::<Extent>(),
+        size_of::<Peek>(),
+        size_of::<Options>(),
+        size_of::<Spec>(),
+        size_of::<Step>(),
+        size_of::<Fault>(),
+        size_of::<Answer>(),
+        size_of::<Buffers<'static>>(),
+    ];
+    match sizes.get(record as usize) {
+        Some(size) => *size,
+        None => 0,
     }
 }

@@ -72,9 +72,9 @@ of_kept_lines : (f : Frame) (n : ℕ) (ls : List (List Piece))
 unfolding kept_lines
 of_kept_lines f n ls =
     either (nat_lt 3 (length ls))
-    (join (of_kept_rows f n (take 1 ls)) (join (of_dots f.gutter.palette)
-    (join (text (codes "\n") refl)
-    (of_kept_rows f (n + (length ls - 1)) (drop (length ls - 1) ls)))))
+    (join (of_kept_rows f n (take 1 ls)) (join (spaces (f.gutter.columns - 3))
+    (join (of_dots f.gutter.palette) (join (text (codes "\n") refl)
+    (of_kept_rows f (n + (length ls - 1)) (drop (length ls - 1) ls))))))
     (of_kept_rows f n ls)
 
 -- several new lines

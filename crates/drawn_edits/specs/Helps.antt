@@ -51,11 +51,13 @@ abbrev pub kept_rows : Frame → ℕ → List (List Piece) → List ℕ
 kept_rows f n [] = []
 kept_rows f n (l ∷ ls) = kept_row f n l ++ kept_rows f (n + 1) ls
 
--- The rows of lines from the number n on, and of others from m on, and dots between them.
+-- The rows of lines from the number n on, and of others from m on, and dots between them. These
+-- end where the numbers do, or begin there if the numbers have fewer than three columns.
 abbrev pub kept_ends : Frame → ℕ → ℕ → List (List Piece) → List (List Piece) → List ℕ
 kept_ends f n m first last =
     kept_rows f n first
-    ++ (painted_text f.gutter.palette Secondary (codes "...") ++ (codes "\n" ++ kept_rows f m last))
+    ++ (run (f.gutter.columns - 3) 32 ++ (painted_text f.gutter.palette Secondary (codes "...")
+    ++ (codes "\n" ++ kept_rows f m last)))
 
 -- The rows of such lines in front of a changed one: of more than three the first and the last one.
 unfoldable pub kept_lines : Frame → ℕ → List (List Piece) → List ℕ

@@ -1,5 +1,4 @@
 pub mod EditedLines
 pub mod Helps
 pub mod PlusSigns
-pub mod Suggestions
 pub mod ShownLines

@@ -13,7 +13,7 @@ ghost use Rattle.drawn_lines.specs.declared.paint.Style.TheVariants.{Plain};
 use crate::edited::{Line, Part};
 use drawn_lines::{
     Frame, Palette, Style, draws_nothing, has_colours, put_glyphs, put_glyphs_after,
-    put_line_number, put_number_bar, put_painted_text, put_reset, put_sign,
+    put_line_number, put_number_bar, put_painted_text, put_reset, put_run, put_sign,
 };
 use std::alloc::AllocError;
 
@@ -187,6 +187,7 @@ fn put_kept_ends(
         (map seen_line last.now)) }
 {
     put_kept_rows(out, frame, n, first)?;
+    put_run(out, ' ', frame.gutter.columns.saturating_sub(3))?;
     put_painted_text(out, frame.gutter.palette, Style::Secondary, "...")?;
     out.push_str("\n")?;
     put_kept_rows(out, frame, m, last)?;

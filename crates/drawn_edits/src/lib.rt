@@ -8,4 +8,4 @@ pub mod laws;
 mod suggestions;
 
 pub use edited::{Edit, placed_edit};
-pub use suggestions::{put_edit, put_edits, put_help_word};
+pub use suggestions::{put_edits, put_help_word};

@@ -1,4 +1,4 @@
-//! A suggestion with its old and its new lines. A function whose name begins with `put_` appends to
+//! Edits with the old and the new lines. A function whose name begins with `put_` appends to
 //! `out`, and returns `Err` if an allocation fails.
 
 ghost use Rattle.std.specs.Prelude.{◌≡◌, ◌++◌, OnOk, false, map, string_bytes};
@@ -7,11 +7,10 @@ ghost use Rattle.drawn_edits.specs.EditedLines.{seen_edit};
 ghost use Rattle.drawn_edits.specs.PlusSigns.{AddsEdits};
 ghost use Rattle.drawn_lines.specs.Frames.{seen_frame};
 ghost use Rattle.drawn_lines.specs.Painting.{has_colours};
-ghost use Rattle.drawn_edits.specs.Suggestions.{edit_rows, help_title};
 
 use crate::changes::put_rows;
 use crate::edited::Edit;
-use drawn_lines::{Frame, Palette, Style, put_glyphs, put_painted_text};
+use drawn_lines::{Frame, Palette, Style, put_painted_text};
 use std::alloc::AllocError;
 
 /// Adds the word that a help begins with.
@@ -21,18 +20,6 @@ pub fn put_help_word(out: &mut String, palette: Palette) -> Result<(), AllocErro
 {
     put_painted_text(out, palette, Style::Help, "help")?;
     out.push_str(": ")?;
-    Ok(())
-}
-
-/// Adds the title of a suggestion.
-fn put_help_title(out: &mut String, palette: Palette, text: &str) -> Result<(), AllocError>
-    ensures { OnOk result (string_bytes out.new
-        ≡ string_bytes out.old ++ help_title palette text.now) }
-{
-    put_help_word(out, palette)?;
-    out.push_str("did you mean `")?;
-    put_glyphs(out, text, 0)?;
-    out.push_str("`?\n")?;
     Ok(())
 }
 
@@ -48,16 +35,5 @@ pub fn put_edits(out: &mut String, frame: &Frame<'_>, edits: &[Edit<'_>]) -> Res
         (string_bytes out.new)) }
 {
     put_rows(out, frame, edits)?;
-    Ok(())
-}
-
-/// Adds the rows of an edit.
-#[tactic(auto, unfolding(crate::specs::Suggestions::edit_rows))]
-pub fn put_edit(out: &mut String, frame: &Frame<'_>, edit: &Edit<'_>) -> Result<(), AllocError>
-    ensures { OnOk result (string_bytes out.new ≡ string_bytes out.old
-        ++ edit_rows (seen_frame frame.now) (seen_edit edit.now)) }
-{
-    put_help_title(out, frame.gutter.palette, edit.text)?;
-    put_edits(out, frame, &[*edit])?;
     Ok(())
 }

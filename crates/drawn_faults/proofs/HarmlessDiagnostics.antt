@@ -7,7 +7,8 @@ use Rattle.std.specs.Prelude.{decimal, unwrap_or}
 use Rattle.std.specs.Option.{option_map_or}
 use Rattle.rustc_parse_format.specs.Characters.{Text}
 use Rattle.rustc_parse_format.specs.World.{Place}
-use Rattle.drawn_faults.specs.Diagnostics.{Diagnostic, Help, Note, SourceLabel, diagnostic_text}
+use Rattle.drawn_faults.specs.Diagnostics.{Diagnostic, Help, Note, SourceLabel, arrow}
+use Rattle.drawn_faults.specs.Diagnostics.{diagnostic_text}
 use Rattle.drawn_faults.specs.Diagnostics.{drawn_in, each_in_line, first_spot, frame_of, gap_after}
 use Rattle.drawn_faults.specs.Diagnostics.{SourceEdit, gutter_of, help_by, help_row_word}
 use Rattle.drawn_faults.specs.Diagnostics.{helps_rows, in_line, indented_text, label_of}
@@ -15,7 +16,8 @@ use Rattle.drawn_faults.specs.Diagnostics.{labels_rows, last_edit_line, last_hel
 use Rattle.drawn_faults.specs.Diagnostics.{last_label_line, last_line_of, last_note_line}
 use Rattle.drawn_faults.specs.Diagnostics.{level_word, lower_indent, lowest_of_labels, marked_lines}
 use Rattle.drawn_faults.specs.Diagnostics.{next_line}
-use Rattle.drawn_faults.specs.Diagnostics.{note_gutter, notes_rows, parting_above, placed_edit}
+use Rattle.drawn_faults.specs.Diagnostics.{note_gutter, note_word, notes_rows, parting_above}
+use Rattle.drawn_faults.specs.Diagnostics.{placed_edit}
 use Rattle.drawn_faults.specs.Diagnostics.{plain_note, shown_label, shown_note, titled_labels}
 use Rattle.drawn_lines.specs.Glyphs.{IsHarmless, glyph, glyph_count, is_obeyed}
 use Rattle.drawn_lines.specs.Frames.{Frame, line_indent}
@@ -30,10 +32,14 @@ use Rattle.drawn_lines.specs.declared.paint.Gutter.{Gutter}
 use Rattle.drawn_lines.specs.declared.paint.Palette.{Palette}
 use Rattle.drawn_lines.specs.declared.paint.Palette.TheVariants.{Colourless}
 use Rattle.drawn_lines.specs.declared.paint.Style.TheVariants.{Bold, Primary, Secondary}
-use Rattle.drawn_lines.proofs.Coloured.{either, join, nothing, of_painted, plain}
+use Rattle.drawn_lines.proofs.Coloured.{coloured, either, join, nothing, of_painted, plain}
+use Rattle.drawn_lines.proofs.Coloured.{uncoloured-harmless}
+use Rattle.drawn_lines.proofs.Harmless.{decimal-harmless}
+use Rattle.drawn_lines.specs.declared.extent.Spot.{Spot}
+use Rattle.shown_text.proofs.OneLine.{one_line-harmless, shown-one_line}
+use Rattle.shown_text.specs.declared.gate.Kind.TheVariants.{Line}
 use Rattle.drawn_lines.proofs.Harmless.{glyph-harmless, glyphs-harmless, join as join_harmless}
 use Rattle.drawn_lines.proofs.Harmless.{run-harmless, text as harmless_text, written-harmless}
-use Rattle.drawn_faults.proofs.HarmlessDrawings.{harmless-with, of_arrow, of_note_word}
 use Rattle.drawn_edits.proofs.HarmlessHelps.{of_edits, of_help_word}
 use Rattle.drawn_lines.proofs.HarmlessLines.{of_parting, of_code, of_gap, of_glyphs, off}
 use Rattle.drawn_lines.proofs.HarmlessLines.{plain_frame, spaces, text}
@@ -48,6 +54,16 @@ in_line-signed n (m ∷ ms) p =
     by_test : (b : Bool) (ns : List Mark) → AreSigned ns → AreSigned (cond b (m ∷ ns) ns)
     by_test true ns q = (p.0, q)
     by_test false ns q = q
+
+of_arrow : (f : Frame) (at : Spot) → IsColourOf (arrow f at) (arrow (plain_frame f) at)
+unfolding arrow
+of_arrow f at =
+    join (spaces f.gutter.columns)
+    (join (of_painted f.gutter.palette Secondary (harmless_text (codes "--> ") refl))
+    (join (plain (one_line-harmless (shown-one_line Line f.picture.path)))
+    (join (text (codes ":") refl)
+    (join (plain (decimal-harmless (f.picture.line_start + at.line))) (join (text (codes ":") refl)
+    (join (plain (decimal-harmless (at.chars + 1))) (text (codes "\n") refl)))))))
 
 -- lines with labels
 of_gap_after : (f : Frame) (o : Option ℕ) (n : ℕ)
@@ -105,6 +121,13 @@ of_titled f p word title ls w q =
     (join (of_arrow f (first_spot ls)) (join (of_parting f) (of_labels f ls q)))))
 
 -- notes
+of_note_word : (g : Gutter) → IsColourOf (note_word g) (note_word (off g))
+of_note_word g =
+    join (spaces g.columns) (join (text (codes " ") refl)
+    (join (of_painted g.palette Secondary (harmless_text (codes "= ") refl))
+    (join (of_painted g.palette Bold (harmless_text (codes "note") refl))
+    (text (codes ": ") refl))))
+
 of_indented : (g : Gutter) (t : Text) → IsColourOf (indented_text g t) (indented_text (off g) t)
 of_indented g [] = nothing
 of_indented g (c ∷ t) =
@@ -243,6 +266,26 @@ diagnostic-coloured p d =
     (gutter-same p d)
     (subst (λ e. IsColourOf (drawn_in f d ls) (drawn_in e d ls)) (frame-same p (gutter_of p d) ls)
     (of_drawn_in f d ls (labels-signs p d.labels)))
+
+-- Without colours the picture is the same.
+pub picture-same : (p : Picture) → p.colours ≡ false → p ≡ without_colours p
+picture-same p e = ap (λ (b : Bool). record {
+  path = p.path;
+  source = p.source;
+  line_start = p.line_start;
+  literal_start = p.literal_start;
+  width = p.width;
+  colours = b;
+}) e
+
+-- A terminal obeys nothing of a drawing but colours.
+pub harmless-with : {p : Picture} (f : Picture → List ℕ) → IsColourOf (f p) (f (without_colours p))
+    → IsHarmlessWith p.colours (f p)
+harmless-with {p = p} f h = by_test p.colours refl
+  where
+    by_test : (b : Bool) → p.colours ≡ b → IsHarmlessWith b (f p)
+    by_test true e = coloured h
+    by_test false e = subst (λ q. IsHarmless (f q)) (sym (picture-same p e)) (uncoloured-harmless h)
 
 -- A terminal obeys nothing of it but colours.
 pub diagnostic-harmless : (p : Picture) (d : Diagnostic)

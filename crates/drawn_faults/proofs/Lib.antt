@@ -1,3 +1,4 @@
 pub mod HarmlessDrawings
 pub mod HarmlessDiagnostics
-pub mod ArrowLaws
+pub mod Indents
+pub mod ShownLaws

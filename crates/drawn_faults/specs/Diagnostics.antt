@@ -6,7 +6,6 @@ use Rattle.std.specs.Prelude.{unwrap_or, codes, decimal, chars}
 use Rattle.std.specs.Option.{option_map_or}
 use Rattle.rustc_parse_format.specs.Characters.{Text}
 use Rattle.rustc_parse_format.specs.World.{Place}
-use Rattle.drawn_faults.specs.Drawing.{arrow, note_word}
 use Rattle.drawn_lines.specs.Glyphs.{glyph, glyph_bytes, glyph_count, run}
 use Rattle.drawn_edits.specs.Helps.{edits_rows, help_word}
 use Rattle.drawn_edits.specs.EditedLines.{Edit, edit_in_literal}
@@ -17,6 +16,8 @@ use Rattle.drawn_labels.specs.Long.{long_rows}
 use Rattle.drawn_labels.specs.Margins.{window_of}
 use Rattle.drawn_labels.specs.Marks.{is_right_of, mark_rows, sorted_marks}
 use Rattle.drawn_lines.specs.Painting.{painted_text, palette_of}
+use Rattle.shown_text.specs.Shown.{shown}
+use Rattle.shown_text.specs.declared.gate.Kind.TheVariants.{Line}
 use Rattle.drawn_lines.specs.Places.{Picture, extent, origin}
 use Rattle.drawn_labels.specs.Rows.{Mark}
 use Rattle.drawn_lines.specs.declared.extent.Spot.{Spot}
@@ -178,6 +179,15 @@ labels_rows f [] = each_in_line f []
 labels_rows f (l ∷ []) = single_rows f l
 labels_rows f (l ∷ k ∷ ls) = each_in_line f (l ∷ k ∷ ls)
 
+-- Where the text is that a diagnostic is about: the path in one line, the line, and the column,
+-- which counts characters.
+unfoldable pub arrow : Frame → Spot → List ℕ
+arrow f at =
+    run f.gutter.columns 32 ++ (painted_text f.gutter.palette Secondary (codes "--> ")
+    ++ (shown Line f.picture.path ++ (codes ":"
+    ++ (decimal (f.picture.line_start + at.line) ++ (codes ":" ++ (decimal (at.chars + 1)
+    ++ codes "\n"))))))
+
 -- A title, in these colours, after a word, and the labels under it.
 unfoldable pub titled_labels : Frame → Palette → List ℕ → List ℕ → List Label → List ℕ
 titled_labels f colours word title ls =
@@ -193,6 +203,12 @@ margin g c = if c == 10 then run g.columns 32 ++ codes "         " else []
 abbrev pub indented_text : Gutter → Text → List ℕ
 indented_text g [] = []
 indented_text g (c ∷ t) = run (glyph_count c) (glyph c) ++ (margin g c ++ indented_text g t)
+
+-- The start of a note.
+abbrev pub note_word : Gutter → List ℕ
+note_word g =
+    run g.columns 32 ++ (codes " " ++ (painted_text g.palette Secondary (codes "= ")
+    ++ (painted_text g.palette Bold (codes "note") ++ codes ": ")))
 
 -- A note that shows nothing.
 abbrev pub plain_note : Gutter → List ℕ → List ℕ

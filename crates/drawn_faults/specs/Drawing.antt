@@ -1,89 +1,92 @@
--- The text that shows an error under its source, as bytes, from top to bottom. The layout is that
--- of rustc 1.95.
-use Rattle.std.specs.Prelude.{ℕ, ◌+◌, ◌==◌, ◌++◌, if◌then◌else◌, List, [], Option, None, Some}
-use Rattle.std.specs.Prelude.{codes, decimal}
+-- The drawing of an error of the parser: that of the diagnostic which says what the error says.
+use Rattle.std.specs.Prelude.{ℕ, ◌++◌, ◌&&◌, ◌==◌, Bool, false, true, List, [], ◌∷◌, Option, None}
+use Rattle.std.specs.Prelude.{Some, codes}
 use Rattle.rustc_parse_format.specs.World.{Place}
-use Rattle.rustc_parse_format.specs.Faults.{Message}
-use Rattle.rustc_parse_format.specs.Types.{Mode}
+use Rattle.rustc_parse_format.specs.Types.{Mode, Format, InlineAsm, Diagnostic, DiagnosticNamed}
+use Rattle.rustc_parse_format.specs.Faults.{Message, Suggestion, Nothing, UsePositional}
+use Rattle.rustc_parse_format.specs.Faults.{RemoveRawIdent, ReorderFormatParameter, AddMissingColon}
+use Rattle.rustc_parse_format.specs.Faults.{UseRustDebugPrintingMacro}
 use Rattle.fault_fixes.specs.Edits.{offered_suggestion}
-use Rattle.drawn_lines.specs.Glyphs.{glyph_bytes, run}
-use Rattle.shown_text.specs.Shown.{shown}
-use Rattle.shown_text.specs.declared.gate.Kind.TheVariants.{Line}
-use Rattle.drawn_lines.specs.Painting.{painted_text}
 use Rattle.drawn_lines.specs.Places.{Picture}
-use Rattle.drawn_labels.specs.Labels.{Label, mark_in, labelled_line, two_labels}
-use Rattle.drawn_edits.specs.EditedLines.{Edit}
-use Rattle.drawn_lines.specs.Frames.{Frame}
-use Rattle.drawn_faults.specs.Labels.{primary_label, second_label, edit_of, frame, text_name}
-use Rattle.drawn_lines.specs.Lines.{parting}
-use Rattle.drawn_labels.specs.Long.{long_rows}
-use Rattle.drawn_edits.specs.Suggestions.{help_rows}
-use Rattle.drawn_lines.specs.declared.extent.Spot.{Spot}
-use Rattle.drawn_lines.specs.declared.paint.Gutter.{Gutter}
-use Rattle.drawn_lines.specs.declared.paint.Palette.{Palette}
-use Rattle.drawn_lines.specs.declared.paint.Style.TheVariants.{Bold, Primary, Secondary}
+use Rattle.drawn_faults.specs.Diagnostics.{Diagnostic as SourceDiagnostic, Help, Note, SourceEdit}
+use Rattle.drawn_faults.specs.Diagnostics.{SourceLabel, diagnostic_text}
 
--- The title of the error.
-abbrev pub title : Palette → Mode → List ℕ → List ℕ
-title p mode description =
-    painted_text p Primary (codes "error")
-    ++ (painted_text p Bold (codes ": invalid " ++ (text_name mode
-    ++ (codes ": " ++ glyph_bytes description)))
-    ++ codes "\n")
+-- The name of the compiler for the text of a literal in a mode.
+abbrev pub text_name : Mode → List ℕ
+text_name Format = codes "format string"
+text_name InlineAsm = codes "asm template string"
+text_name Diagnostic = codes "format string"
+text_name DiagnosticNamed = codes "format string"
 
--- Where the text is that the error is about: the path in one line, the line, and the column, which
--- counts characters.
-unfoldable pub arrow : Frame → Spot → List ℕ
-arrow f at =
-    run f.gutter.columns 32 ++ (painted_text f.gutter.palette Secondary (codes "--> ")
-    ++ (shown Line f.picture.path ++ (codes ":"
-    ++ (decimal (f.picture.line_start + at.line) ++ (codes ":" ++ (decimal (at.chars + 1)
-    ++ codes "\n"))))))
+-- The title of an error.
+abbrev pub title : Mode → List ℕ → List ℕ
+title mode description = codes "invalid " ++ (text_name mode ++ (codes ": " ++ description))
 
--- The lines above the source.
-unfoldable pub head : Mode → Frame → List ℕ → Spot → List ℕ
-head mode f description at = title f.gutter.palette mode description ++ (arrow f at ++ parting f)
+-- The text and the range of a suggestion that is drawn as a label.
+abbrev pub inline_help : Suggestion Place → Option (List ℕ × Place)
+inline_help Nothing = None
+inline_help UsePositional = None
+inline_help (RemoveRawIdent s) = Some (codes "help: remove the `r#`", s)
+inline_help (ReorderFormatParameter s t) = None
+inline_help (AddMissingColon s) =
+    Some (codes "help: add a colon before the format specifier: `:?`", s)
+inline_help UseRustDebugPrintingMacro = None
 
--- The lines with labels. Of two labels each is drawn in the line in which it begins, and one over
--- several lines has one sign there.
-unfoldable pub labelled_rows : Frame → Label → Option Label → List ℕ
-labelled_rows f l None =
-    if l.extent.start.line == l.extent.end.line then labelled_line f
-    (mark_in f l) else long_rows f l
-labelled_rows f l (Some s) = two_labels f (mark_in f l) (mark_in f s)
+-- The text and the range of the second label, if there is one.
+abbrev pub second_text : Option (List ℕ × Place) → Suggestion Place → Option (List ℕ × Place)
+second_text None g = inline_help g
+second_text (Some x) g = Some x
 
--- The start of a note.
-abbrev pub note_word : Gutter → List ℕ
-note_word g =
-    run g.columns 32 ++ (codes " " ++ (painted_text g.palette Secondary (codes "= ")
-    ++ (painted_text g.palette Bold (codes "note") ++ codes ": ")))
+-- The ranges are the same.
+abbrev pub is_same : Place → Place → Bool
+is_same s r = (s.0 == r.0) && (s.1 == r.1)
 
--- The row of a note.
-abbrev pub note_row : Gutter → Option (List ℕ) → List ℕ
-note_row g None = []
-note_row g (Some t) = note_word g ++ (glyph_bytes t ++ codes "\n")
+-- The labels of an error with this range, of which the first one has this text. The second one, if
+-- there is one, is primary too if it has the same range.
+abbrev pub labels_of : Place → List ℕ → Option (List ℕ × Place) → List SourceLabel
+labels_of s t None = record { span = s; is_primary = true; text = t } ∷ []
+labels_of s t (Some x) =
+    record { span = s; is_primary = true; text = t }
+    ∷ record { span = x.1; is_primary = is_same x.1 s; text = x.0 } ∷ []
 
--- The row between the labels and what is below them, if there is anything.
-abbrev pub parting_before : Frame → Option (List ℕ) → Option Edit → List ℕ
-parting_before f None None = []
-parting_before f (Some t) e = parting f
-parting_before f None (Some e) = parting f
+-- The notes of an error.
+abbrev pub notes_of : Option (List ℕ) → List Note
+notes_of None = []
+notes_of (Some t) = record { text = t; spans = [] } ∷ []
 
--- The rows below the labels.
-unfoldable pub rows_below_labels : Frame → Option (List ℕ) → Option Edit → List ℕ
-rows_below_labels f note e = parting_before f note e ++ (note_row f.gutter note ++ help_rows f e)
+-- The edit that is drawn with its old and its new lines, if there is one.
+abbrev pub edits_of : Suggestion Place → List SourceEdit
+edits_of Nothing = []
+edits_of UsePositional = []
+edits_of (RemoveRawIdent s) = []
+edits_of (ReorderFormatParameter s t) = record { span = s; text = t } ∷ []
+edits_of (AddMissingColon s) = []
+edits_of UseRustDebugPrintingMacro = []
 
--- The drawing of labels, an error's other texts and an edit in a layout. It ends in an empty line.
-unfoldable pub laid_out_error : Mode → Frame → Message Place → Label → Option Label → Option Edit
-    → List ℕ
-laid_out_error mode f m l s e =
-    head mode f m.description l.extent.start
-    ++ (labelled_rows f l s ++ (rows_below_labels f m.note e ++ codes "\n"))
+-- What the help with an edit says.
+abbrev pub advice : List SourceEdit → List ℕ
+advice [] = []
+advice (e ∷ es) = codes "did you mean `" ++ (e.text ++ codes "`?")
+
+-- The help with this text and these edits, if there are any.
+abbrev pub helps_of : List ℕ → List SourceEdit → List Help
+helps_of t [] = []
+helps_of t (e ∷ es) = record { text = t; edits = e ∷ es } ∷ []
+
+-- What an error says, as a diagnostic.
+unfoldable pub diagnostic_of : Mode → Message Place → SourceDiagnostic
+diagnostic_of mode m =
+    let suggestion = offered_suggestion mode m.suggestion in
+    let edits = edits_of suggestion in
+    record {
+      is_warning = false;
+      title = title mode m.description;
+      labels = labels_of m.span (m.label ++ (codes " in " ++ text_name mode))
+          (second_text m.second suggestion);
+      notes = notes_of m.note;
+      helps = helps_of (advice edits) edits;
+    }
 
 -- The whole text.
 unfoldable pub drawing : Mode → Picture → Message Place → List ℕ
-drawing mode p m =
-    let l = primary_label mode p m in
-    let s = second_label mode p m in
-    let e = edit_of p (offered_suggestion mode m.suggestion) in
-    laid_out_error mode (frame p l s e) m l s e
+drawing mode p m = diagnostic_text p (diagnostic_of mode m)

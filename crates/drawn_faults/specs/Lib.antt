@@ -1,5 +1,4 @@
-pub mod Labels
-pub mod Drawing
 pub mod Diagnostics
 pub mod SeenDiagnostics
-pub mod Arrows
+pub mod Drawing
+pub mod Shown

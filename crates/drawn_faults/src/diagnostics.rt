@@ -11,6 +11,7 @@ ghost use Rattle.drawn_lines.specs.Painting.{IsColourOf, IsHarmlessWith};
 ghost use Rattle.drawn_lines.specs.Places.{seen_picture, without_colours};
 ghost use Rattle.drawn_faults.specs.SeenDiagnostics.{is_warning, seen_diagnostic};
 ghost use Rattle.drawn_faults.specs.SeenDiagnostics.{seen_source_label};
+ghost use Rattle.drawn_faults.specs.Shown.{PointsAt, ShowsLabels};
 
 use crate::helps::{SourceHelp, last_help_line, put_helps};
 use crate::marked::{frame_of, last_label_line};
@@ -170,6 +171,9 @@ fn put_drawn_diagnostic(
     Ok(())
 }
 
+/// How many bytes most drawings have at most, besides their title.
+const ROOM: usize = 768;
+
 /// Adds the drawing of a diagnostic.
 #[tactic(auto, unfolding(crate::specs::Diagnostics::diagnostic_text))]
 fn put_diagnostic(
@@ -181,6 +185,7 @@ fn put_diagnostic(
     ensures { OnOk result (string_bytes out.new ≡ string_bytes out.old
         ++ diagnostic_text (seen_picture picture.now) (seen_diagnostic diagnostic.now)) }
 {
+    out.reserve(diagnostic.title.len().saturating_add(ROOM))?;
     let alloc = *out.allocator();
     let labels = labels_of(alloc, picture, diagnostic.labels)?;
     let gutter = gutter_of(alloc, picture, diagnostic, &labels)?;
@@ -204,9 +209,16 @@ fn put_diagnostic(
 /// last are shown; one has the old lines above it if something is left out, and else the signs `+`
 /// under what is new.
 ///
-/// The widths of characters and the spans that do not fit are those of [`draw`](crate::draw). It
-/// takes the square of the number of labels in a line, and has as many rows there. Returns `Err` if
-/// an allocation fails, or if the source has 2^59 bytes or more.
+/// Lines with labels, and those between, are cut where a row would be wider than the picture. The
+/// width of a character is that of the crate `unicode_width`. Of all characters up to U+323FF, it
+/// differs from that of rustc 1.95 for U+FF9E and U+FF9F, and for 1,027 that are new in Unicode 18.
+///
+/// A span that does not fit is drawn too: an offset inside a character means the start of that
+/// character, one after the source its end, and a range that ends before it begins is empty.
+///
+/// It takes the square of the number of labels in a line, and has as many rows there. Returns `Err`
+/// if an allocation fails, or if the source has 2^59 bytes or more.
+#[tactic(auto, using(crate::proofs::ShownLaws::shown_diagnostic))]
 pub fn draw_labels(
     alloc: Global,
     picture: &Picture<'_>,
@@ -219,6 +231,12 @@ pub fn draw_labels(
     ensures coloured { IfOk result (λ s. IsColourOf (string_bytes s) (diagnostic_text
         (without_colours (seen_picture picture.now)) (seen_diagnostic diagnostic.now))) }
     ensures harmless { IfOk result (λ s. IsHarmlessWith picture.now.colours (string_bytes s)) }
+    // The line and the column that it names are those of the first character of a primary label.
+    ensures arrow { IfOk result (λ s. PointsAt (seen_picture picture.now)
+        (seen_diagnostic diagnostic.now) (string_bytes s)) }
+    // It shows the lines of its labels, with their signs in their columns and no sign elsewhere.
+    ensures labels { IfOk result (λ s. ShowsLabels (seen_picture picture.now)
+        (seen_diagnostic diagnostic.now) (string_bytes s)) }
 {
     let mut out = String::new(alloc);
     put_labels(&mut out, picture, diagnostic)?;

@@ -1,11 +1,10 @@
-//! The faults of a string literal for the one who wrote it: [`draw`] draws a fault under its
-//! source, as rustc does, and [`draw_labels`] a diagnostic with any number of labels.
+//! Diagnostics for the one who wrote a source: [`draw_labels`] draws one under its source, as rustc
+//! does, and [`draw`] an error of the parser.
 #![tactic(auto)]
 
 mod diagnostics;
 mod drawing;
 mod helps;
-mod labels;
 mod marked;
 mod notes;
 

@@ -4,7 +4,8 @@
 ghost use Rattle.std.specs.Prelude.{◌≡◌, ◌++◌, ◌<◌, ◌^◌, IfOk, OnOk, chars, length, map};
 ghost use Rattle.std.specs.Prelude.{string_bytes};
 ghost use Rattle.rustc_parse_format.specs.Views.{pair};
-ghost use Rattle.drawn_faults.specs.Diagnostics.{indented_text, last_note_line, margin, notes_rows};
+ghost use Rattle.drawn_faults.specs.Diagnostics.{arrow, indented_text, last_note_line, margin};
+ghost use Rattle.drawn_faults.specs.Diagnostics.{note_word, notes_rows};
 ghost use Rattle.drawn_faults.specs.Diagnostics.{plain_note, shown_label, shown_note};
 ghost use Rattle.drawn_faults.specs.Diagnostics.{titled_labels};
 ghost use Rattle.drawn_lines.specs.Frames.{seen_frame};
@@ -12,13 +13,14 @@ ghost use Rattle.drawn_labels.specs.Labels.{seen_label};
 ghost use Rattle.drawn_lines.specs.Places.{seen_picture};
 ghost use Rattle.drawn_faults.specs.SeenDiagnostics.{seen_note};
 
-use crate::drawing::{put_arrow, put_note_word};
 use crate::marked::{first_spot, frame_of, last_label_line, put_labels_rows};
 use drawn_labels::Label;
 use drawn_lines::{
-    Frame, Gutter, Palette, Picture, Style, extent_of, glyph, glyph_count, palette_of, put_closing,
-    put_glyphs, put_opening, put_painted_text, put_parting, put_run, split_first,
+    Frame, Gutter, Palette, Picture, Spot, Style, extent_of, glyph, glyph_count, palette_of,
+    put_closing, put_decimal, put_glyphs, put_note_sign, put_opening, put_painted_text,
+    put_parting, put_run, split_first,
 };
+use shown_text::{Kind, put_shown};
 use std::alloc::{AllocError, Global};
 use std::ops::Range;
 
@@ -74,6 +76,27 @@ pub fn last_note_line(
     Ok(line)
 }
 
+/// Adds where the text is that a diagnostic is about.
+#[tactic(auto, unfolding(crate::specs::Diagnostics::arrow))]
+fn put_arrow(out: &mut String, frame: &Frame<'_>, at: Spot) -> Result<(), AllocError>
+    requires line { at.line < 2 ^ 59 }
+    requires chars { at.chars < 2 ^ 59 }
+    ensures { OnOk result (string_bytes out.new ≡ string_bytes out.old
+        ++ arrow (seen_frame frame.now) at) }
+{
+    let line = frame.picture.line_start as usize + at.line;
+    let column = at.chars + 1;
+    put_run(out, ' ', frame.gutter.columns)?;
+    put_painted_text(out, frame.gutter.palette, Style::Secondary, "--> ")?;
+    put_shown(out, Kind::Line, frame.picture.path)?;
+    out.push_str(":")?;
+    put_decimal(out, line)?;
+    out.push_str(":")?;
+    put_decimal(out, column)?;
+    out.push_str("\n")?;
+    Ok(())
+}
+
 /// Adds a title, in these colours, after a word, and labels under it.
 #[tactic(auto, unfolding(crate::specs::Diagnostics::titled_labels))]
 pub fn put_titled_labels(
@@ -112,8 +135,8 @@ fn put_margin(out: &mut String, gutter: Gutter, c: char) -> Result<(), AllocErro
     Ok(())
 }
 
-/// Adds a text whose lines but the first one begin with a margin.
-pub fn put_indented_text(out: &mut String, gutter: Gutter, text: &str) -> Result<(), AllocError>
+/// Adds a text of several lines, of which all but the first one begin with a margin.
+fn put_note_lines(out: &mut String, gutter: Gutter, text: &str) -> Result<(), AllocError>
     ensures { OnOk result (string_bytes out.new
         ≡ string_bytes out.old ++ indented_text gutter (chars text.now)) }
 {
@@ -123,6 +146,29 @@ pub fn put_indented_text(out: &mut String, gutter: Gutter, text: &str) -> Result
         put_margin(out, gutter, c)?;
         rest = tail;
     }
+    Ok(())
+}
+
+/// Adds a text whose lines but the first one begin with a margin.
+#[tactic(auto, using(crate::proofs::Indents::one_lines))]
+pub fn put_indented_text(out: &mut String, gutter: Gutter, text: &str) -> Result<(), AllocError>
+    ensures { OnOk result (string_bytes out.new
+        ≡ string_bytes out.old ++ indented_text gutter (chars text.now)) }
+{
+    if text.contains('\n') {
+        put_note_lines(out, gutter, text)?;
+    } else {
+        put_glyphs(out, text, 0)?;
+    }
+    Ok(())
+}
+
+/// Adds the start of a note.
+fn put_note_word(out: &mut String, gutter: Gutter) -> Result<(), AllocError>
+    ensures { OnOk result (string_bytes out.new ≡ string_bytes out.old ++ note_word gutter) }
+{
+    put_run(out, ' ', gutter.columns)?;
+    put_note_sign(out, gutter.palette)?;
     Ok(())
 }
 

@@ -1,10 +1,5 @@
-pub mod RowLemmas
 pub mod MarkLemmas
 pub mod HarmlessRows
 pub mod HarmlessMarks
 pub mod SignLaws
-pub mod LabelLaws
 pub mod LongLaws
-pub mod BarLaws
-pub mod PairLaws
-pub mod TwoLaws

@@ -112,7 +112,7 @@ among-put before m x (n ∷ ms) h = by_test (before m n) h (among-put before m x
     by_test false (inr (inl e)) on = inl e
     by_test false (inr (inr k)) on = inr (on (inr k))
 
-sorted-among : (before : Mark → Mark → Bool) (done ms : List Mark) (x : Mark)
+pub sorted-among : (before : Mark → Mark → Bool) (done ms : List Mark) (x : Mark)
     → IsAmong x (sorted_marks before done ms) → IsAmong x done ⊎ IsAmong x ms
 sorted-among before done [] x h = inl h
 sorted-among before done (m ∷ ms) x h =
@@ -121,7 +121,7 @@ sorted-among before done (m ∷ ms) x h =
       | inr k ↦ inr (inr k)
     ]
 
-among-sorted : (before : Mark → Mark → Bool) (done ms : List Mark) (x : Mark)
+pub among-sorted : (before : Mark → Mark → Bool) (done ms : List Mark) (x : Mark)
     → IsAmong x done ⊎ IsAmong x ms → IsAmong x (sorted_marks before done ms)
 among-sorted before done [] x (inl h) = h
 among-sorted before done [] x (inr h) = absurd h

@@ -1,9 +1,8 @@
--- Labels of ranges of the source, and lines with one or two of them, as bytes.
-use Rattle.std.specs.Prelude.{ℕ, ◌+◌, ◌-◌, ◌==◌, ◌++◌, if◌then◌else◌, nat_lt, max, List}
+-- Labels of ranges of the source.
+use Rattle.std.specs.Prelude.{ℕ, ◌+◌, ◌-◌, ◌==◌, if◌then◌else◌, max, List}
 use Rattle.drawn_lines.specs.Places.{Extent, seen_extent}
-use Rattle.drawn_labels.specs.Rows.{Mark, lone_row, both_rows}
+use Rattle.drawn_labels.specs.Rows.{Mark}
 use Rattle.drawn_labels.specs.declared.labels.Label.{Label as DeclaredLabel}
-use Rattle.drawn_lines.specs.Lines.{code_row, gap, row_under}
 use Rattle.drawn_lines.specs.Frames.{Frame}
 use Rattle.drawn_lines.specs.Windows.{shift}
 
@@ -31,17 +30,3 @@ mark cut l = record {
 -- A label as it is drawn in the line in which it begins.
 abbrev pub mark_in : Frame → Label → Mark
 mark_in f l = mark (shift f l.extent.start.line) l
-
--- A line of the source with a label.
-unfoldable pub labelled_line : Frame → Mark → List ℕ
-labelled_line f m = code_row f m.line ++ row_under f.gutter (lone_row f.gutter.palette m)
-
--- Two lines with labels, from top to bottom.
-unfoldable pub lines_apart : Frame → Mark → Mark → List ℕ
-lines_apart f m n = labelled_line f m ++ (gap f m.line n.line ++ labelled_line f n)
-
--- The lines with two labels.
-unfoldable pub two_labels : Frame → Mark → Mark → List ℕ
-two_labels f m n =
-    if m.line == n.line then code_row f m.line ++ both_rows f.gutter m n
-    else if nat_lt m.line n.line then lines_apart f m n else lines_apart f n m

@@ -1,11 +1,10 @@
 -- Where the signs and the texts of labels stand in the rows under a line, column by column: the
 -- theorems on rows that are drawn are about this.
-use Rattle.std.specs.Prelude.{◌≡◌, ◌<◌, ◌⊎◌, ℕ, ◌+◌, ◌++◌, true, false, zero, suc, List, []}
-use Rattle.std.specs.Prelude.{◌∷◌, chars, codes, flat_map, length}
+use Rattle.std.specs.Prelude.{◌≡◌, ◌⊎◌, ℕ, ◌+◌, ◌++◌, true, false, zero, suc, List, []}
+use Rattle.std.specs.Prelude.{◌∷◌, codes, flat_map}
 use Rattle.std.specs.List.{AllByRecursion}
 use Rattle.drawn_lines.specs.Frames.{Frame}
-use Rattle.drawn_lines.specs.Glyphs.{glyphs}
-use Rattle.drawn_lines.specs.Lines.{AddsLine, gap, row_under}
+use Rattle.drawn_lines.specs.Lines.{AddsLine, row_under}
 use Rattle.drawn_lines.specs.declared.paint.Gutter.{Gutter}
 use Rattle.drawn_labels.specs.Marks.{cells}
 use Rattle.drawn_labels.specs.Rows.{Mark, cell, has_column, space, style_of, text_style}
@@ -75,21 +74,3 @@ pub record AddsLabels (f : Frame) (n : ℕ) (ms : List Mark) (old new : List ℕ
   pub mid : List ℕ
   pub line : AddsLine f (codes " ") n old mid
   pub rows : AddsRows f.gutter ms mid new
-
--- Each byte of the text takes a column, as in all texts of labels.
-abbrev pub IsNarrow : List ℕ → Type 0
-IsNarrow t = length (glyphs (chars t)) ≡ length t
-
--- Two lines with a label each are added to a text, from top to bottom, and what is between them.
-pub record AddsApart (f : Frame) (m n : Mark) (old new : List ℕ) : Type 0 where
-  pub mid : List ℕ
-  pub low : List ℕ
-  pub first : AddsLabels f m.line (m ∷ []) old mid
-  pub between : low ≡ mid ++ gap f m.line n.line
-  pub second : AddsLabels f n.line (n ∷ []) low new
-
--- The lines with two labels are added to a text: the line that both are in, or the line of each.
-pub record AddsTwo (f : Frame) (m n : Mark) (old new : List ℕ) : Type 0 where
-  pub in_one : m.line ≡ n.line → AddsLabels f m.line (m ∷ n ∷ []) old new
-  pub in_order : m.line < n.line → AddsApart f m n old new
-  pub in_turn : n.line < m.line → AddsApart f n m old new

@@ -46,7 +46,7 @@ pub fn text_style(mark: &Mark<'_>) -> Style
 }
 
 /// Returns a space.
-pub fn space() -> Cell
+fn space() -> Cell
     ensures { result ≡ space }
 {
     Cell {

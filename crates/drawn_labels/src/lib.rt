@@ -1,5 +1,5 @@
-//! Labels under lines of a source as rustc draws them: one or two of an error, any number of them
-//! in a line, and one over several lines.
+//! Labels under lines of a source as rustc draws them: any number of them in a line, and one over
+//! several lines.
 #![tactic(auto)]
 
 mod cells;
@@ -10,9 +10,8 @@ mod margin;
 mod mark;
 mod marks;
 mod order;
-mod rows;
 
-pub use labels::{Label, mark_in, put_labelled_line, put_two_labels};
+pub use labels::{Label, mark_in};
 pub use long::put_long_label;
 pub use margin::{Reach, window_of};
 pub use mark::Mark;

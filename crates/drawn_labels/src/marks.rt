@@ -21,6 +21,9 @@ use crate::order::covered_first;
 use drawn_lines::{Gutter, put_gutter};
 use std::alloc::{AllocError, Global};
 
+/// How many columns most rows have at most.
+const ROOM: usize = 128;
+
 /// Puts the text of a label that stands right of its signs into a row.
 fn put_side_text(row: &mut Vec<Cell>, label: &HungLabel<'_>) -> Result<(), AllocError>
     ensures { OnOk result (row.new.items ≡ with_side_text (seen_hung label.now) row.old.items) }
@@ -77,7 +80,7 @@ fn sign_row(
     ensures { IfOk result (λ v. v.items
         ≡ sign_row (map seen_mark marks.now) (map seen_hung labels.now)) }
 {
-    let mut row = Vec::new(alloc);
+    let mut row = Vec::with_capacity(alloc, ROOM)?;
     put_side_texts(&mut row, labels)?;
     let covered_marks = covered_first(alloc, marks)?;
     put_signs(&mut row, &covered_marks)?;
@@ -131,7 +134,7 @@ fn put_hung_texts(row: &mut Vec<Cell>, n: usize, labels: &[HungLabel<'_>]) -> Re
 fn hung_row(alloc: Global, n: usize, labels: &[HungLabel<'_>]) -> Result<Vec<Cell>, AllocError>
     ensures { IfOk result (λ v. v.items ≡ hung_row n (map seen_hung labels.now)) }
 {
-    let mut row = Vec::new(alloc);
+    let mut row = Vec::with_capacity(alloc, ROOM)?;
     put_bars(&mut row, n, labels)?;
     put_hung_texts(&mut row, n, labels)?;
     Ok(row)

@@ -1,5 +1,5 @@
 -- The faults that are not mended, and those that come in their place.
-use Rattle.std.proofs.Common.{◌≡◌, ◌∙◌, ◌↔◌, ◌+◌, ◌≤◌, ℕ, Bool, IsTrue, true, false, List, [], ◌∷◌}
+use Rattle.std.proofs.Common.{◌≡◌, ◌∙◌, ◌↔◌, ◌+◌, ◌-◌, ℕ, Bool, IsTrue, true, false, List, [], ◌∷◌}
 use Rattle.std.proofs.Common.{ap, arith, if◌then◌else◌, inl, inr, length, map, refl, string_bytes}
 use Rattle.std.proofs.Common.{subst, sym}
 use Rattle.std.specs.Bool.{Decides}
@@ -115,41 +115,30 @@ either-way at (x ∷ xs) = one (is_mended at x) (either-way (end_after at (edits
     one true h k = omega (arith, h)
     one false h k = omega (arith, k)
 
--- So where there are no more faults than before, the search decides whether the faults stay.
-stay-found : (xs ys : List Finding) → length ys ≤ length xs
-    → are_found (unmended_findings 0 xs) ys ≡ true → FaultsStay xs ys
-stay-found xs ys few h =
+-- So the search decides whether the faults stay.
+stay-found : (xs ys : List Finding) → are_found (unmended_findings 0 xs) ys ≡ true
+    → FaultsStay xs ys
+stay-found xs ys h =
     let found = others-of (unmended_findings 0 xs) ys h in
-    let whole = either-way 0 xs in
-    let parts = merged-length (map fault_name (unmended_findings 0 xs)) found.0 (map fault_name ys)
-    found.1
-    in
-    let olds = length-map (unmended_findings 0 xs) fault_name in
-    let news = length-map ys fault_name in
-    record {
-      others = found.0;
-      are_all = found.1;
-      few = omega (arith, few, whole, parts, olds, news);
-    }
+    record { others = found.0; are_all = found.1 }
 
-found-stay : (xs ys : List Finding) → FaultsStay xs ys
-    → (length ys ≤ length xs) × (are_found (unmended_findings 0 xs) ys ≡ true)
-found-stay xs ys s =
+pub decides : (r q : Report) (xs : List Finding) (b : Bool) → IsNoWorse r q
+    → b ≡ are_found (unmended_findings 0 xs) q.findings.items
+    → IsTrue b ↔ IsNoWorse r q × FaultsStay xs q.findings.items
+decides r q xs b w e = (
+  λ h. (w, stay-found xs q.findings.items (sym e ∙ h)),
+  λ s. let k = s.1 in
+      e ∙ found-among (unmended_findings 0 xs) q.findings.items k.others k.are_all,
+)
+
+-- The others are those beside as many faults as are not mended.
+pub new-count : (xs ys : List Finding) (m : ℕ) → m ≡ length (mended_faults 0 xs)
+    → (s : FaultsStay xs ys) → length ys - (length xs - m) ≡ length s.others
+new-count xs ys m e s =
     let whole = either-way 0 xs in
     let parts =
     merged-length (map fault_name (unmended_findings 0 xs)) s.others (map fault_name ys) s.are_all
     in
     let olds = length-map (unmended_findings 0 xs) fault_name in
     let news = length-map ys fault_name in
-    let few = s.few in (
-      omega (arith, few, whole, parts, olds, news),
-      found-among (unmended_findings 0 xs) ys s.others s.are_all,
-    )
-
-pub decides : (r q : Report) (b : Bool) → IsNoWorse r q
-    → b ≡ are_found (unmended_findings 0 r.findings.items) q.findings.items
-    → IsTrue b ↔ IsNoWorse r q × FaultsStay r.findings.items q.findings.items
-decides r q b w e = (
-  λ h. (w, stay-found r.findings.items q.findings.items w.findings (sym e ∙ h)),
-  λ s. e ∙ (found-stay r.findings.items q.findings.items s.1).1,
-)
+    omega (arith, e, whole, parts, olds, news)

@@ -1,5 +1,5 @@
 -- Rounds that follow each other.
-use Rattle.std.proofs.Common.{◌≡◌, ◌++◌, ◌+◌, ◌-◌, ◌<◌, ℕ, zero, suc, Bool, List, []}
+use Rattle.std.proofs.Common.{◌≡◌, ◌++◌, ◌-◌, ◌<◌, ℕ, zero, suc, Bool, List, []}
 use Rattle.std.proofs.Common.{append_assoc, arith, inl, inr, refl, subst, sym}
 use Rattle.format_calls.specs.Rows.{Entry}
 use Rattle.source_report.specs.declared.report.Report.{Report}
@@ -28,16 +28,14 @@ go-on es is_new n m bs ds cs r p q us vs e round rounds =
     subst (λ k. AreRounds es is_new k bs r cs q (us ++ vs)) (sym e)
     (inr (ds, p, us, vs, refl, round, rounds))
 
--- What follows from further rounds after n of them follows from those after one more.
-pub one-more : (es : List Entry) (is_new : Bool) (n : ℕ) (bs ds ks : List ℕ) (r p k : Report)
-    (us vs : List (List ℕ)) → n < 16 → IsRound es is_new ds p ks k vs
-    → ((cs : List ℕ) (q : Report) (ws : List (List ℕ)) → AreRounds es is_new (16 - n) ds p cs q ws
-    → AreRounds es is_new 16 bs r cs q (us ++ ws))
-    → (cs : List ℕ) (q : Report) (ws : List (List ℕ))
-    → AreRounds es is_new (16 - (n + 1)) ks k cs q ws
-    → AreRounds es is_new 16 bs r cs q ((us ++ vs) ++ ws)
-one-more es is_new n bs ds ks r p k us vs few round before cs q ws h =
-    let e : 16 - n ≡ suc (16 - (n + 1)) = omega (arith, few) in
-    subst (AreRounds es is_new 16 bs r cs q) (sym (append_assoc us vs ws))
-    (before cs q (vs ++ ws)
-    (go-on es is_new (16 - n) (16 - (n + 1)) ds ks cs p k q vs ws e round h))
+-- What follows from n further rounds follows from those that are left after the first of them.
+pub one-more : (es : List Entry) (is_new : Bool) (n most : ℕ) (bs ds ks : List ℕ)
+    (r p k : Report) (us vs : List (List ℕ)) → 0 < n → IsRound es is_new ds p ks k vs
+    → ((cs : List ℕ) (q : Report) (ws : List (List ℕ)) → AreRounds es is_new n ds p cs q ws
+    → AreRounds es is_new most bs r cs q (us ++ ws))
+    → (cs : List ℕ) (q : Report) (ws : List (List ℕ)) → AreRounds es is_new (n - 1) ks k cs q ws
+    → AreRounds es is_new most bs r cs q ((us ++ vs) ++ ws)
+one-more es is_new n most bs ds ks r p k us vs some round before cs q ws h =
+    let e : n ≡ suc (n - 1) = omega (arith, some) in
+    subst (AreRounds es is_new most bs r cs q) (sym (append_assoc us vs ws))
+    (before cs q (vs ++ ws) (go-on es is_new n (n - 1) ds ks cs p k q vs ws e round h))

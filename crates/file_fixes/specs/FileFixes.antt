@@ -1,6 +1,7 @@
 -- A file with the suggestions to its faults applied.
-use Rattle.std.specs.Prelude.{◌≡◌, ◌⊎◌, ◌++◌, ◌∷◌, ◌≤◌, ℕ, zero, suc, Bool, List, [], Option, Some}
-use Rattle.std.specs.Prelude.{None, IsTrue, IsUtf8, chars, if◌then◌else◌, length, map, string_bytes}
+use Rattle.std.specs.Prelude.{◌≡◌, ◌⊎◌, ◌++◌, ◌∷◌, ◌≤◌, ◌/◌, ◌^◌, ℕ, zero, suc, Bool, List, []}
+use Rattle.std.specs.Prelude.{Option, Some, None, IsTrue, IsUtf8, chars, if◌then◌else◌, length}
+use Rattle.std.specs.Prelude.{map, max, string_bytes}
 use Rattle.std.specs.List.{list_all}
 use Rattle.std.specs.declared.alloc.Global.{Global}
 use Rattle.std.specs.declared.string.String.{String}
@@ -15,6 +16,8 @@ use Rattle.source_report.specs.declared.report.Finding.{Finding}
 use Rattle.source_report.specs.declared.report.Report.{Report}
 use Rattle.source_report.specs.Suggestions.{all_edits, edits_of, end_after, is_mended}
 use Rattle.source_report.specs.Suggestions.{mended_faults}
+use Rattle.file_fixes.specs.AllFaults.{HasFaults}
+use Rattle.file_fixes.specs.Mending.{are_gone, have_literals, literal_count, moved_ends}
 use Rattle.file_fixes.specs.Outside.{KeepsTokens, is_known}
 
 -- The bytes of a text.
@@ -46,30 +49,49 @@ unmended_findings at (x
     else x ∷ unmended_findings at xs
 
 -- The faults xs become the faults ys in a round: those that are not mended stay, in their order,
--- and at most as many others come as are mended. The compiler shows only the first fault of a
--- format string, so mending it can uncover another.
+-- and others come.
 pub record FaultsStay (xs ys : List Finding) : Type 0 where
   pub others : List FaultName
   pub are_all : IsMerged (map fault_name (unmended_findings 0 xs)) others (map fault_name ys)
-  pub few : length others ≤ length (mended_faults 0 xs)
 
--- The edits of the faults of the report r that are mended in one round.
-abbrev pub round_edits : Report → List Edit
-round_edits r = all_edits (mended_faults 0 r.findings.items)
+-- The edits of those of the faults xs that are mended in one round.
+abbrev pub round_edits : List Finding → List Edit
+round_edits xs = all_edits (mended_faults 0 xs)
 
 -- The bytes bs with these edits.
-abbrev pub mended_bytes : List ℕ → Report → List ℕ
-mended_bytes bs r = edited_bytes 0 (round_edits r) bs
+abbrev pub mended_bytes : List ℕ → List Finding → List ℕ
+mended_bytes bs xs = edited_bytes 0 (round_edits xs) bs
 
 -- The file with the bytes bs reads as the tokens xs, and the one with the bytes cs as ys.
 abbrev pub AreTokens : List ℕ → List ℕ → List Lexeme → List Lexeme → Type 0
 AreTokens bs cs xs ys = ReadsFile (chars bs) xs × ReadsFile (chars cs) ys
 
--- The tokens that no edit touches are the same in a file with the bytes bs and the report r, and
+-- The tokens that no edit touches are the same in a file with the bytes bs and the faults fs, and
 -- with the bytes cs that the edits make of it.
-unfoldable pub OthersStay : List ℕ → Report → List ℕ → Type 0
-OthersStay bs r cs = (xs ys : List Lexeme) × AreTokens bs cs xs ys
-    × KeepsTokens (round_edits r) (placed_tokens 0 xs) (placed_tokens 0 ys)
+unfoldable pub OthersStay : List ℕ → List Finding → List ℕ → Type 0
+OthersStay bs fs cs = (xs ys : List Lexeme) × AreTokens bs cs xs ys
+    × KeepsTokens (round_edits fs) (placed_tokens 0 xs) (placed_tokens 0 ys)
+
+-- The mended ones of the faults fs are in string literals of the file with the bytes bs, and their
+-- edits are in these or in the arguments behind them.
+unfoldable pub StaysInCalls : List ℕ → List Finding → Type 0
+StaysInCalls bs fs = (xs : List Lexeme) × ReadsFile (chars bs) xs
+    × IsTrue (have_literals bs (placed_tokens 0 xs) (mended_faults 0 fs))
+
+-- The mended ones of the faults fs are in n or more string literals of the file with the bytes bs.
+unfoldable pub HasLiterals : List ℕ → List Finding → ℕ → Type 0
+HasLiterals bs fs n = (xs : List Lexeme) × ReadsFile (chars bs) xs
+    × (n ≤ literal_count (placed_tokens 0 xs) (mended_faults 0 fs))
+
+-- They are not.
+unfoldable pub LeavesCalls : List ℕ → List Finding → Type 0
+LeavesCalls bs fs = (xs : List Lexeme) × ReadsFile (chars bs) xs
+    × (IsTrue (have_literals bs (placed_tokens 0 xs) (mended_faults 0 fs)) → ⊥)
+
+-- The faults that are mended in a round are gone: where one of them ended, none of the faults ys
+-- after the round ends that could be mended.
+abbrev pub AreGone : List Finding → List Finding → Type 0
+AreGone xs ys = IsTrue (are_gone (moved_ends 0 0 (mended_faults 0 xs)) ys)
 
 -- The file with the bytes cs lexes: all its tokens are known.
 unfoldable pub Lexes : List ℕ → Type 0
@@ -77,34 +99,48 @@ Lexes cs = (ys : List Lexeme) × ReadsFile (chars cs) ys
     × IsTrue (list_all is_known (placed_tokens 0 ys))
 
 -- Some token that no edit touches does not stay, or some token of the bytes cs is not known.
-unfoldable pub OthersGo : List ℕ → Report → List ℕ → Type 0
-OthersGo bs r cs = (xs ys : List Lexeme) × AreTokens bs cs xs ys
-    × (KeepsTokens (round_edits r) (placed_tokens 0 xs) (placed_tokens 0 ys)
+unfoldable pub OthersGo : List ℕ → List Finding → List ℕ → Type 0
+OthersGo bs fs cs = (xs ys : List Lexeme) × AreTokens bs cs xs ys
+    × (KeepsTokens (round_edits fs) (placed_tokens 0 xs) (placed_tokens 0 ys)
     × IsTrue (list_all is_known (placed_tokens 0 ys)) → ⊥)
 
--- In a round the file with the bytes bs and the report r, of which faults are mended, becomes the
--- bytes cs with the report q. The mended faults have the ids ws. The other faults stay, and at most
--- as many others come as are mended. All tokens that no edit touches stay, and no others come but
--- where the edits are. The file lexes.
+-- In a round the file with the bytes bs and the report r becomes the bytes cs with the report q.
+-- The faults of the round are those of r, and others of the same format strings or not. Those that
+-- are mended have the ids ws, and are gone. The other faults stay, and at most one other comes for
+-- each string literal in which a fault is mended: the compiler shows only the first fault of a
+-- format string, so mending it can uncover another. Each edit is in the literal of its fault or
+-- puts text into the arguments behind it. All tokens that no edit touches stay, and no others come
+-- but where the edits are. The file lexes.
 pub record IsRound (es : List Entry) (is_new : Bool) (bs : List ℕ) (r : Report) (cs : List ℕ)
     (q : Report) (ws : List (List ℕ)) : Type 0 where
-  pub text : cs ≡ mended_bytes bs r
-  pub ids : ws ≡ map (λ x. x.id.now) (mended_faults 0 r.findings.items)
+  pub faults : List Finding
+  pub are_all : HasFaults bs r.findings.items faults
+  pub text : cs ≡ mended_bytes bs faults
+  pub ids : ws ≡ map (λ x. x.id.now) (mended_faults 0 faults)
   pub report : IsReport es is_new cs q
   pub no_worse : IsNoWorse r q
-  pub faults : FaultsStay r.findings.items q.findings.items
-  pub tokens : OthersStay bs r cs
+  pub stay : FaultsStay faults q.findings.items
+  pub few : HasLiterals bs faults (length stay.others)
+  pub gone : AreGone faults q.findings.items
+  pub calls : StaysInCalls bs faults
+  pub tokens : OthersStay bs faults cs
   pub lexes : Lexes cs
 
--- No round follows on the file with the bytes bs and the report r: no fault is to be mended, or the
--- file with the edits is no text, or is worse, or lacks a fault that is not mended, or has other
--- tokens where no edit is, or does not lex.
+-- No round follows on the file with the bytes bs and the report r with the findings fs: no fault is
+-- to be mended, or the file with the edits is no text, or is worse, or lacks a fault that is not
+-- mended, or has one that is, or more others than there are literals with a mended one, or an edit
+-- is outside of its call, or the file has other tokens where no edit is, or does not lex.
 abbrev pub IsLast : List Entry → Bool → List ℕ → Report → Type 0
-IsLast es is_new bs r = (mended_faults 0 r.findings.items ≡ [])
-    ⊎ ((IsUtf8 (mended_bytes bs r) → ⊥)
-    ⊎ (((q : Report) × IsReport es is_new (mended_bytes bs r) q
-    × (IsNoWorse r q × FaultsStay r.findings.items q.findings.items → ⊥))
-    ⊎ OthersGo bs r (mended_bytes bs r)))
+IsLast es is_new bs r = let fs = r.findings.items in (mended_faults 0 fs ≡ [])
+    ⊎ ((IsUtf8 (mended_bytes bs fs) → ⊥)
+    ⊎ (((q : Report) × IsReport es is_new (mended_bytes bs fs) q
+    × (IsNoWorse r q × (s : FaultsStay fs q.findings.items) × AreGone fs q.findings.items
+    × HasLiterals bs fs (length s.others) → ⊥))
+    ⊎ (OthersGo bs fs (mended_bytes bs fs) ⊎ LeavesCalls bs fs)))
+
+-- The most rounds over a file with the bytes bs: 16, or as many as read 2 ^ 24 bytes together.
+abbrev pub most_rounds : List ℕ → ℕ
+most_rounds bs = max 16 (2 ^ 24 / suc (length bs))
 
 -- The same after rounds in which faults with the ids ws are mended: at most n rounds, and fewer
 -- only if no further one follows.

@@ -1,4 +1,6 @@
+pub mod AllFaults
 pub mod FaultSearch
 pub mod FileFixes
+pub mod Mending
 pub mod Outside
 pub mod Walk

@@ -2,7 +2,10 @@
 //! strings ([`fixes`]).
 #![tactic(auto)]
 
+mod all_faults;
 mod fault_search;
+mod literals;
+mod mended;
 mod outside;
 mod round_edits;
 mod rounds;

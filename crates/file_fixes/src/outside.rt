@@ -167,30 +167,25 @@ fn are_known(tokens: &[Token]) -> bool
     true
 }
 
-/// Returns whether the tokens that no edit touches are the same in a text and in the edited text,
-/// of which all tokens are known. Returns `Err` if an allocation fails.
+/// Returns whether the tokens that no edit touches are the same in a text with these tokens and in
+/// the edited text, of which all tokens are known. Returns `Err` if an allocation fails.
 pub(crate) fn keeps_tokens(
     alloc: Global,
-    old: &str,
+    old: &[Token],
     edits: &[Edit<'_>],
     new: &str,
 ) -> Result<bool, AllocError>
-    requires { IsTrue (are_after 0 (map seen_edit edits.now)) }
-    ensures { IfOk result (λ b. (xs ys : List Lexeme) × ReadsFile (chars old.now) xs
-        × ReadsFile (chars new.now) ys × (IsTrue b
-        ↔ KeepsTokens (map seen_edit edits.now) (placed_tokens 0 xs) (placed_tokens 0 ys)
+    requires edits { IsTrue (are_after 0 (map seen_edit edits.now)) }
+    requires tokens { (xs : List Lexeme) × (old.now ≡ placed_tokens 0 xs) }
+    ensures { IfOk result (λ b. (ys : List Lexeme) × ReadsFile (chars new.now) ys × (IsTrue b
+        ↔ KeepsTokens (map seen_edit edits.now) old.now (placed_tokens 0 ys)
         × IsTrue (list_all is_known (placed_tokens 0 ys)))) }
 {
-    let old_tokens = tokens(alloc, old)?;
     let new_tokens = tokens(alloc, new)?;
     if !are_known(new_tokens.as_slice()) {
         return Ok(false);
     }
-    let old_others = untouched_tokens(
-        alloc,
-        old_parts(alloc, edits)?.as_slice(),
-        old_tokens.as_slice(),
-    )?;
+    let old_others = untouched_tokens(alloc, old_parts(alloc, edits)?.as_slice(), old)?;
     let new_others = untouched_tokens(
         alloc,
         new_parts(alloc, edits)?.as_slice(),

@@ -14,7 +14,8 @@ use Rattle.source_report.specs.declared.report.CallReading.{CallReading}
 use Rattle.inlined_arguments.specs.Conditions.{Call as FormatCall}
 use Rattle.inlined_arguments.specs.Edits.{Edit}
 use Rattle.inlined_arguments.specs.Variables.{Argument as FormatArgument}
-use Rattle.file_inlines.specs.CallInlines.{InlinesBy, InlinesLiteral, InlinesUnless, call_of}
+use Rattle.file_inlines.specs.CallInlines.{InlinesBy, InlinesLiteral, InlinesUnder}
+use Rattle.file_inlines.specs.CallInlines.{InlinesUnless, call_of}
 use Rattle.file_inlines.specs.CallInlines.{has_const_form, is_format_alone}
 use Rattle.file_inlines.specs.Sources.{with_source}
 use Rattle.file_inlines.specs.declared.calls.CallInlining.{CallInlining}
@@ -61,3 +62,11 @@ pub inlines-here : (is_new mixed : Bool) (bs : List ℕ) (t : Option CallReading
 inlines-here is_new mixed bs t xs c args o r es n a e h =
     subst (λ v. InlinesUnless v is_new mixed bs xs c r es) n
     (args, a, subst (λ v. InlinesBy is_new mixed bs xs c args v r es) e h)
+
+-- What becomes of a call on terms, where the same becomes of it without them.
+pub under-map : (o : Option CallInlining) (P Q : CallInlining → List Edit → Type 0)
+    (r : CallInlining) (es : List Edit)
+    → ((q : CallInlining) (fs : List Edit) → P q fs → Q q fs)
+    → InlinesUnder o P r es → InlinesUnder o Q r es
+under-map None P Q r es f h = f r es h
+under-map (Some x) P Q r es f h = (h.0, h.1, f h.0 h.1 h.2, h.3, h.4)

@@ -1,4 +1,5 @@
 pub mod Calling
+pub mod Literals
 pub mod MovedCalls
 pub mod Naming
 pub mod Sorting

@@ -20,7 +20,7 @@ use Rattle.asm_lint.specs.Literals.{without_crs}
 use Rattle.source_lint.specs.CallLists.{Gives}
 use Rattle.source_lint.specs.Readings.{Finds, Reads, ReadsAt, ReadsBy, ReadsLiteral, ReadsOne}
 use Rattle.source_lint.specs.Readings.{ReadsUnless, Scope, arguments_before, index_or, name_at}
-use Rattle.source_lint.specs.Readings.{skipped_reading, start_of}
+use Rattle.source_lint.specs.Readings.{newline_of, skipped_reading, start_of}
 use Rattle.file_inlines.specs.CallInlines.{Inlines, InlinesAt, InlinesBy, InlinesLiteral}
 use Rattle.file_inlines.specs.CallInlines.{InlinesOne, InlinesUnless, has_string, is_unread}
 use Rattle.file_inlines.specs.declared.calls.CallInlining.TheVariants.{Unread}
@@ -43,10 +43,11 @@ unread-literal is_new mixed rule w bs xs x args appended captures counted gs q f
     = h.3 in
     absurd (has-string counted q n f.0)
 
-unread-at : (is_new mixed : Bool) (bs : List ℕ) (xs : List Leaf) (c : Call) (args : List Argument)
-    (n : ℕ) (q : CallReading) (fs : List Finding) → IsTrue (not (has_string q))
-    → ReadsAt is_new xs c args n q fs → InlinesAt is_new mixed bs xs c args n (Unread q) []
-unread-at is_new mixed bs xs c args n q fs u h = record {
+unread-at : (is_new appended mixed : Bool) (bs : List ℕ) (xs : List Leaf) (c : Call)
+    (args : List Argument) (n : ℕ) (q : CallReading) (fs : List Finding)
+    → IsTrue (not (has_string q)) → ReadsAt is_new appended xs c args n q fs
+    → InlinesAt is_new mixed bs xs c args n (Unread q) []
+unread-at is_new appended mixed bs xs c args n q fs u h = record {
   string = h.string;
   is_string = h.is_string;
   literal = h.literal;
@@ -58,41 +59,42 @@ unread-at is_new mixed bs xs c args n q fs u h = record {
       (arguments_before h.end (drop (n + 1) args)) _ _ _ _ q fs u h.reads;
 }
 
-unread-one : (rule : Rule) (is_new mixed : Bool) (bs : List ℕ) (xs : List Leaf) (c : Call)
+unread-one : (rule : Rule) (is_new appended mixed : Bool) (bs : List ℕ) (xs : List Leaf) (c : Call)
     (args : List Argument) (n : ℕ) (q : CallReading) (fs : List Finding)
-    → IsTrue (is_unread rule q) → ReadsOne rule is_new xs c args n q fs
+    → IsTrue (is_unread rule q) → ReadsOne rule is_new appended xs c args n q fs
     → InlinesOne rule is_new mixed bs xs c args n (Unread q) []
-unread-one (Index m) is_new mixed bs xs c args n q fs u h =
-    unread-at is_new mixed bs xs c args n q fs u h
-unread-one (IndexByEdition m) is_new mixed bs xs c args n q fs u h =
-    unread-at is_new mixed bs xs c args n q fs u h
-unread-one FirstLiteral is_new mixed bs xs c args n q fs u h =
-    unread-at is_new mixed bs xs c args n q fs u h
-unread-one Templates is_new mixed bs xs c args n q fs u h = absurd (false≢true u)
+unread-one (Index m) is_new appended mixed bs xs c args n q fs u h =
+    unread-at is_new appended mixed bs xs c args n q fs u h
+unread-one (IndexByEdition m) is_new appended mixed bs xs c args n q fs u h =
+    unread-at is_new appended mixed bs xs c args n q fs u h
+unread-one FirstLiteral is_new appended mixed bs xs c args n q fs u h =
+    unread-at is_new appended mixed bs xs c args n q fs u h
+unread-one Templates is_new appended mixed bs xs c args n q fs u h = absurd (false≢true u)
 
-unread-by : (is_new mixed : Bool) (bs : List ℕ) (xs : List Leaf) (c : Call) (args : List Argument)
-    (o : Result ℕ CallReading) (q : CallReading) (fs : List Finding)
-    → IsTrue (is_unread c.rule q) → ReadsBy is_new xs c args o q fs
+unread-by : (is_new appended mixed : Bool) (bs : List ℕ) (xs : List Leaf) (c : Call)
+    (args : List Argument) (o : Result ℕ CallReading) (q : CallReading) (fs : List Finding)
+    → IsTrue (is_unread c.rule q) → ReadsBy is_new appended xs c args o q fs
     → InlinesBy is_new mixed bs xs c args o (Unread q) []
-unread-by is_new mixed bs xs c args (Ok n) q fs u h =
-    unread-one c.rule is_new mixed bs xs c args n q fs u h
-unread-by is_new mixed bs xs c args (Err p) q fs u h = (ap Unread h.0, refl)
+unread-by is_new appended mixed bs xs c args (Ok n) q fs u h =
+    unread-one c.rule is_new appended mixed bs xs c args n q fs u h
+unread-by is_new appended mixed bs xs c args (Err p) q fs u h = (ap Unread h.0, refl)
 
-unread-unless : (o : Option CallReading) (is_new mixed : Bool) (bs : List ℕ) (xs : List Leaf)
-    (c : Call) (q : CallReading) (fs : List Finding) → IsTrue (is_unread c.rule q)
-    → ReadsUnless o is_new xs c q fs → InlinesUnless o is_new mixed bs xs c (Unread q) []
-unread-unless (Some p) is_new mixed bs xs c q fs u h = (ap Unread h.0, refl)
-unread-unless None is_new mixed bs xs c q fs u h = (
+unread-unless : (o : Option CallReading) (is_new appended mixed : Bool) (bs : List ℕ)
+    (xs : List Leaf) (c : Call) (q : CallReading) (fs : List Finding) → IsTrue (is_unread c.rule q)
+    → ReadsUnless o is_new appended xs c q fs → InlinesUnless o is_new mixed bs xs c (Unread q) []
+unread-unless (Some p) is_new appended mixed bs xs c q fs u h = (ap Unread h.0, refl)
+unread-unless None is_new appended mixed bs xs c q fs u h = (
   h.0,
   h.1,
-  unread-by is_new mixed bs xs c h.0 (index_or is_new xs c.rule h.0) q fs u h.2,
+  unread-by is_new appended mixed bs xs c h.0 (index_or is_new xs c.rule h.0) q fs u h.2,
 )
 
 pub unread-call : (s : Scope) (is_new mixed : Bool) (xs : List Leaf) (c : Call) (q : CallReading)
     (fs : List Finding) → IsTrue (is_unread c.rule q) → Reads s is_new xs c q fs
     → Inlines s is_new mixed xs c (Unread q) []
 unread-call s is_new mixed xs c q fs u h =
-    unread-unless (skipped_reading s c.rule (slice_get xs c.name)) is_new mixed s.text xs c q fs u h
+    unread-unless (skipped_reading s c.rule (slice_get xs c.name)) is_new
+    (newline_of s (name_at xs c.name)) mixed s.text xs c q fs u h
 
 -- The first of some readings is that of the first call, and the others are those of the others.
 pub gives-first : (P : Call → CallReading → List Finding → Type 0) (all rest : List Call) (c : Call)

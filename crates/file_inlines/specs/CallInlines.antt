@@ -1,5 +1,6 @@
 -- What inlining makes of a call of a file.
-use Rattle.std.specs.Prelude.{◌≡◌, ◌+◌, ◌++◌, ◌⊎◌, ℕ, Bool, true, false, not, List, []}
+use Rattle.std.specs.Prelude.{◌≡◌, ◌+◌, ◌-◌, ◌^◌, ◌<◌, ◌++◌, ◌⊎◌, ℕ, Bool, true, false, not, List}
+use Rattle.std.specs.Prelude.{[], ◌∷◌, IsUtf8, if◌then◌else◌, min}
 use Rattle.std.specs.Prelude.{Option, Some, None, Result, Ok, Err, chars, drop, encode_utf8_all}
 use Rattle.std.specs.Prelude.{is_some, length, map, option_map, slice_get}
 use Rattle.std.specs.List.{filter_map, list_any}
@@ -20,34 +21,65 @@ use Rattle.source_report.specs.declared.report.CallReading.TheVariants.{ForeignM
 use Rattle.source_report.specs.declared.report.CallReading.TheVariants.{NoComma, NoExpression}
 use Rattle.source_report.specs.declared.report.CallReading.TheVariants.{RedefinedMacro, StringAlone}
 use Rattle.source_report.specs.declared.report.CallReading.TheVariants.{Unread as CannotRead, Whole}
-use Rattle.asm_lint.specs.Literals.{appends_newline, without_crs}
+use Rattle.asm_lint.specs.Literals.{AreBefore, appends_newline, dropped_crs, without_crs}
 use Rattle.source_lint.specs.Readings.{Scope, arguments_before, captures_variables, ends_early}
 use Rattle.source_lint.specs.Readings.{index_or}
 use Rattle.source_lint.specs.Readings.{name_at, skipped_reading}
 use Rattle.inlined_arguments.specs.Conditions.{Call as FormatCall}
 use Rattle.inlined_arguments.specs.Edits.{AreApart, Edit, edited_text}
 use Rattle.inlined_arguments.specs.Inlining.{InlinedCall, IsInlined, IsUnchanged}
+use Rattle.inlined_arguments.specs.declared.call.Obstacle.TheVariants.{OtherMeaning}
 use Rattle.file_inlines.specs.declared.calls.CallInlining.{CallInlining}
 use Rattle.file_inlines.specs.declared.calls.CallInlining.TheVariants.{Inlined as IsIn}
 use Rattle.file_inlines.specs.declared.calls.CallInlining.TheVariants.{Assembly, Unchanged, Unread}
+use Rattle.file_inlines.specs.declared.calls.CallInlining.TheVariants.{Uncertain}
 use Rattle.file_inlines.specs.Sources.{removed_place, with_source}
+use Rattle.file_inlines.specs.Terms.{Terms, is_inlined, left_reason}
 
--- An edit n bytes further on.
+-- An edit n bytes further on. (An offset is at most 2^64 - 1.)
 abbrev pub moved_edit : ℕ → Edit → Edit
-moved_edit n e = record { span = (n + e.span.0, n + e.span.1); text = e.text }
+moved_edit n e = record {
+  span = (min (n + e.span.0) (2 ^ 64 - 1), min (n + e.span.1) (2 ^ 64 - 1));
+  text = e.text;
+}
 
 -- The edit that removes an argument with its source.
 abbrev pub removal : List ℕ → List Leaf → Argument → Edit
 removal bs xs a = record { span = removed_place bs xs a; text = [] }
 
--- The edits of a literal in its file: edits of the token with the new texts of r, with which it is
--- the literal of r, up to the CR before each LF.
+-- The offset o of a literal is p in its token, which has these CRs more: those before it count.
+abbrev pub IsOffsetIn : List ℕ → ℕ → ℕ → Type 0
+IsOffsetIn crs o p = (n : ℕ) × AreBefore crs o n × (o + n < 2 ^ 64 → p ≡ o + n)
+
+-- The edits es of a literal are fs in its token.
+abbrev pub AreInToken : List ℕ → List Edit → List Edit → Type 0
+AreInToken crs [] fs = fs ≡ []
+AreInToken crs (e ∷ es) fs = (f : Edit) × (more : List Edit) × (fs ≡ f ∷ more)
+    × IsOffsetIn crs e.span.0 f.span.0 × IsOffsetIn crs e.span.1 f.span.1 × (f.text ≡ e.text)
+    × AreInToken crs es more
+
+-- These edits of a token are those of r.
+abbrev pub AreTokenEdits : Leaf → InlinedCall → List Edit → Type 0
+AreTokenEdits literal r es = AreInToken (dropped_crs 0 (chars literal.text)) r.edits es
+
+-- With these edits the token is the literal of r, up to the CR before each LF.
+pub record MakeLiteral (literal : Leaf) (r : InlinedCall) (es : List Edit) : Type 0 where
+  pub are_apart : AreApart 0 es (length literal.text)
+  pub is_text : IsUtf8 (edited_text 0 es literal.text)
+  pub is_new : without_crs (chars (edited_text 0 es literal.text)) ≡ chars r.literal
+
+-- The edits of a literal in its file.
 pub record AreLiteralEdits (literal : Leaf) (r : InlinedCall) (es : List Edit) : Type 0 where
   pub inside : List Edit
-  pub texts : map (λ e. e.text) inside ≡ map (λ e. e.text) r.edits
-  pub are_apart : AreApart 0 inside (length literal.text)
-  pub is_new : without_crs (chars (edited_text 0 inside literal.text)) ≡ chars r.literal
+  pub are_inside : AreTokenEdits literal r inside
+  pub make : MakeLiteral literal r inside
   pub edits : es ≡ map (moved_edit literal.start) inside
+
+-- The literal has no edits in its file, since with those of r its token is another literal.
+pub record HasNoEdits (literal : Leaf) (r : InlinedCall) : Type 0 where
+  pub inside : List Edit
+  pub are_inside : AreTokenEdits literal r inside
+  pub make_none : MakeLiteral literal r inside → ⊥
 
 -- The edits of a call in a file with the bytes bs: those of its literal, and the removal of each
 -- argument that goes.
@@ -107,13 +139,17 @@ call_of is_new rule w bs xs literal style t args counted = record {
   has_const_form = has_const_form rule;
 }
 
--- This call is inlined with these edits, or it is left for this reason, and there is no edit.
-abbrev pub Makes : Bool → FormatCall → (InlinedCall → List Edit → Type 0) → CallInlining → List Edit
-    → Type 0
-Makes mixed c Edits IsIn es = (r : InlinedCall) × IsInlined mixed c r × Edits r es
-Makes mixed c Edits (Unchanged l) es = IsUnchanged mixed c l × (es ≡ [])
-Makes mixed c Edits (Unread q) es = ⊥
-Makes mixed c Edits Assembly es = ⊥
+-- This call, whose format string is this literal of a file, is inlined with these edits, or it is
+-- left for this reason, and there is no edit.
+abbrev pub Makes : Bool → FormatCall → Leaf → (InlinedCall → List Edit → Type 0) → CallInlining
+    → List Edit → Type 0
+Makes mixed c literal Edits IsIn es = (r : InlinedCall) × IsInlined mixed c r × Edits r es
+Makes mixed c literal Edits (Unchanged l) es = (IsUnchanged mixed c l
+    ⊎ ((l ≡ OtherMeaning) × (r : InlinedCall) × IsInlined mixed c r × HasNoEdits literal r))
+    × (es ≡ [])
+Makes mixed c literal Edits (Unread q) es = ⊥
+Makes mixed c literal Edits Assembly es = ⊥
+Makes mixed c literal Edits Uncertain es = ⊥
 
 -- The same where the format string is the literal of a token, which may stand for no text.
 abbrev pub InlinesLiteral : Bool → Bool → Rule → List ℕ → List ℕ → List Leaf → Leaf
@@ -124,7 +160,7 @@ InlinesLiteral is_new mixed rule w bs xs x args counted r es =
     ⊎ ((style : Option ℕ) × (t : Text) × IsLiteral style (without_crs (chars x.text)) t
     × Makes mixed
     (call_of is_new rule w bs xs (without_crs (chars x.text)) style t args counted)
-    (AreEdits bs xs x args) r es)
+    x (AreEdits bs xs x args) r es)
 
 -- The same where the format string begins the argument n of these, and the others after it are
 -- formatted, up to where they end.
@@ -170,3 +206,17 @@ abbrev pub Inlines : Scope → Bool → Bool → List Leaf → Call → CallInli
 Inlines s is_new mixed xs c r es =
     InlinesUnless (skipped_reading s c.rule (slice_get xs c.name)) is_new
     mixed s.text xs c r es
+
+-- The same where a call that could be inlined is left for this reason, if there is one. Any other
+-- call is left for its own.
+abbrev pub InlinesUnder : Option CallInlining → (CallInlining → List Edit → Type 0) → CallInlining
+    → List Edit → Type 0
+InlinesUnder None P r es = P r es
+InlinesUnder (Some reason) P r es = (own : CallInlining) × (edits : List Edit) × P own edits
+    × (r ≡ (if is_inlined own then reason else own))
+    × (es ≡ (if is_inlined own then [] else edits))
+
+-- The same on these terms.
+abbrev pub InlinesOn : Terms → Scope → Bool → List Leaf → Call → CallInlining → List Edit → Type 0
+InlinesOn t s is_new xs c r es = InlinesUnder (left_reason t (name_at xs c.name))
+    (Inlines s is_new t.allows_mixed xs c) r es

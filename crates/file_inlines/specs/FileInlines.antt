@@ -11,7 +11,8 @@ use Rattle.source_lint.specs.Reports.{IsReport}
 use Rattle.source_report.specs.declared.report.Report.{Report}
 use Rattle.file_fixes.specs.FileFixes.{IsNoWorse, bytes_or}
 use Rattle.inlined_arguments.specs.Edits.{AreApart, Edit, MakeNoText, edited_text}
-use Rattle.file_inlines.specs.CallInlines.{Inlines}
+use Rattle.file_inlines.specs.CallInlines.{InlinesOn}
+use Rattle.file_inlines.specs.Terms.{Terms}
 use Rattle.file_inlines.specs.declared.calls.CallInlining.{CallInlining}
 use Rattle.file_inlines.specs.declared.file.FileInlines.{FileInlines}
 
@@ -38,22 +39,22 @@ MakeWorse es is_new bs edits = (cs : List ℕ) × IsEdited bs edits cs
     × ((old new : Report) × IsReport es is_new bs old × IsReport es is_new cs new
     × (IsNoWorse old new → ⊥))
 
--- This becomes of the calls of a file with the bytes bs, in the order of their names, and they
--- have these edits.
-pub record InlinesFile (es : List Entry) (is_new mixed : Bool) (bs : List ℕ)
+-- This becomes of the calls of a file with the bytes bs on these terms, in the order of their
+-- names, and they have these edits.
+pub record InlinesFile (t : Terms) (es : List Entry) (is_new : Bool) (bs : List ℕ)
     (rs : List CallInlining) (edits : List Edit) : Type 0 where
   pub leaves : List Leaf
   pub are_leaves : AreLeaves bs leaves
-  pub inlines : OfCalls (Inlines (record { text = bs; defined = macro_names leaves }) is_new mixed)
-      es leaves rs edits
+  pub inlines : OfCalls (InlinesOn t (record { text = bs; own = []; defined = macro_names leaves })
+      is_new) es leaves rs edits
 
--- A file with the bytes bs and its calls inlined, where the report is that on the new text. If the
--- file is changed, it has the edits of all its calls, and is no worse. If it stays as it is, there
--- is no edit, or with the edits it is no text, or is worse.
-pub record AreInlines (es : List Entry) (is_new mixed : Bool) (bs : List ℕ) (x : FileInlines)
-    : Type 0 where
+-- A file with the bytes bs and its calls inlined on these terms, where the report is that on the
+-- new text. If the file is changed, it has the edits of all its calls, and is no worse. If it stays
+-- as it is, there is no edit, or with the edits it is no text, or is worse.
+pub record AreInlines (t : Terms) (es : List Entry) (is_new : Bool) (bs : List ℕ)
+    (x : FileInlines) : Type 0 where
   pub edits : List Edit
-  pub inlines : InlinesFile es is_new mixed bs x.calls.items edits
+  pub inlines : InlinesFile t es is_new bs x.calls.items edits
   pub text : IfSome x.text (λ s. IsEdited bs edits (string_bytes s))
   pub report : IsReport es is_new (bytes_or x.text bs) x.report
   pub no_worse : IfSome x.text (λ s. (old : Report) × IsReport es is_new bs old

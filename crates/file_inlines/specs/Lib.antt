@@ -1,3 +1,4 @@
 pub mod Sources
+pub mod Terms
 pub mod CallInlines
 pub mod FileInlines

@@ -14,13 +14,15 @@ ghost use Rattle.source_lint.specs.Readings.{Reads, name_at, scope};
 ghost use Rattle.source_report.specs.declared.report.Finding.{Finding as FindingValue};
 ghost use Rattle.inlined_arguments.specs.Edits.{Edit as EditValue};
 ghost use Rattle.inlined_arguments.specs.Views.{seen_call, seen_edit};
-ghost use Rattle.file_inlines.specs.CallInlines.{AreEdits, Inlines, InlinesAt};
+ghost use Rattle.file_inlines.specs.CallInlines.{AreEdits, Inlines, InlinesAt, InlinesOn};
 ghost use Rattle.file_inlines.specs.CallInlines.{InlinesLiteral, InlinesOne, Makes};
 ghost use Rattle.file_inlines.specs.CallInlines.{has_const_form, is_format_alone, is_unread};
+ghost use Rattle.file_inlines.specs.Terms.{seen_terms};
 ghost use Rattle.file_inlines.specs.declared.calls.CallInlining.{CallInlining as InliningValue};
 
 use crate::edits::edits_of;
 use crate::sources::with_sources;
+use crate::terms::{Terms, is_inlined};
 use asm_lint::{appends_newline, read_literal};
 use call_faults::FormatString;
 use format_calls::{Argument, Call, Part, Rule, arguments, extent_of, is_standard, token_at};
@@ -44,6 +46,9 @@ pub enum CallInlining {
     Unread(CallReading),
     /// It is left as it is, since it is one of assembly, whose templates capture no variables.
     Assembly,
+    /// It is left as it is, although it could be inlined, since its macro may be another one than
+    /// that of its row.
+    Uncertain,
 }
 
 /// A call with what inlining makes of it.
@@ -107,7 +112,7 @@ fn inline_format_call(
     allows_mixed: bool,
 ) -> Result<InlinedCall, AllocError>
     requires { hashes call.string.style + length call.string.text.now + 2 < 2 ^ 64 }
-    ensures { IfOk result (λ x. Makes allows_mixed (seen_call call.entry)
+    ensures { IfOk result (λ x. Makes allows_mixed (seen_call call.entry) (leaf site.entry.literal)
         (AreEdits site.entry.text.now (map leaf site.entry.tokens.now) (leaf site.entry.literal)
         site.entry.arguments.now) x.inlining (map seen_edit x.edits.items)) }
 {
@@ -305,8 +310,34 @@ fn inline_call<'a>(
     }
 }
 
+/// Returns what inlining makes of a call that has this reading, on these terms. Returns `Err` if an
+/// allocation fails.
+fn inline_on<'a>(
+    alloc: Global,
+    file: File<'_, 'a>,
+    part: &Part<'a>,
+    call: &Call,
+    reading: CallReading,
+    terms: Terms<'_>,
+) -> Result<InlinedCall, AllocError>
+    requires pair { IsPair part.now (call.now.name + 2) call.now.close }
+    requires reads { (xs : List FindingValue)
+        × Reads (scope file) file.is_from_2021 part.now call.now reading xs }
+    ensures { IfOk result (λ x. InlinesOn (seen_terms terms.entry) (scope file.entry)
+        file.entry.is_from_2021 part.now call.now x.inlining (map seen_edit x.edits.items)) }
+{
+    let inlined_call = inline_call(alloc, file, part, call, reading, terms.allows_mixed)?;
+    if !is_inlined(inlined_call.inlining) {
+        return Ok(inlined_call);
+    }
+    match terms.reason(name_at(part.tokens(), call.name)) {
+        Some(reason) => Ok(unchanged_call(alloc, reason)),
+        None => Ok(inlined_call),
+    }
+}
+
 /// Adds what inlining makes of calls of a part of a file that have these readings, one after the
-/// other. Returns `Err` if an allocation fails.
+/// other, on these terms. Returns `Err` if an allocation fails.
 pub(crate) fn inline_calls<'a>(
     alloc: Global,
     results: &mut InlinedCalls,
@@ -314,7 +345,7 @@ pub(crate) fn inline_calls<'a>(
     part: &Part<'a>,
     calls: &[Call],
     readings: &[CallReading],
-    allows_mixed: bool,
+    terms: Terms<'_>,
 ) -> Result<(), AllocError>
     requires pairs { (c : CallValue) → Contains calls.now c → IsPair part.now (c.name + 2) c.close }
     requires read { (xs : List FindingValue)
@@ -322,8 +353,8 @@ pub(crate) fn inline_calls<'a>(
     ensures { OnOk result ((rs : List InliningValue) × (es : List EditValue)
         × (results.new.inlinings.items ≡ results.old.inlinings.items ++ rs)
         × (map seen_edit results.new.edits.items ≡ map seen_edit results.old.edits.items ++ es)
-        × Gives (Inlines (scope file.entry) file.entry.is_from_2021 allows_mixed part.now)
-        calls.now rs es) }
+        × Gives (InlinesOn (seen_terms terms.entry) (scope file.entry) file.entry.is_from_2021
+        part.now) calls.now rs es) }
 {
     let mut rest = calls;
     let mut rest_readings = readings;
@@ -331,7 +362,7 @@ pub(crate) fn inline_calls<'a>(
         let Some((reading, more)) = rest_readings.split_first() else {
             return Ok(());
         };
-        let mut one = inline_call(alloc, file, part, call, *reading, allows_mixed)?;
+        let mut one = inline_on(alloc, file, part, call, *reading, terms)?;
         results.inlinings.push(one.inlining)?;
         results.edits.append(&mut one.edits)?;
         rest = others;

@@ -1,12 +1,14 @@
 //! The edits that inline a call in its file.
 
-ghost use Rattle.std.specs.Prelude.{◌≡◌, ◌++◌, IfOk, IfSome, IsTrue, OnOk, chars, map, option_map};
+ghost use Rattle.std.specs.Prelude.{◌≡◌, ◌↔◌, ◌++◌, IfOk, IsTrue, MatchOption, OnOk, chars, map};
+ghost use Rattle.std.specs.Prelude.{option_map};
 ghost use Rattle.std.specs.Prelude.{slice_get};
 ghost use Rattle.std.specs.List.{filter_map};
 ghost use Rattle.rust_trees.specs.Leaves.{leaf};
 ghost use Rattle.asm_lint.specs.Literals.{without_crs};
 ghost use Rattle.inlined_arguments.specs.Views.{seen_edit, seen_inlined};
-ghost use Rattle.file_inlines.specs.CallInlines.{AreEdits, AreLiteralEdits, moved_edit, removal};
+ghost use Rattle.file_inlines.specs.CallInlines.{AreEdits, AreInToken, AreLiteralEdits};
+ghost use Rattle.file_inlines.specs.CallInlines.{HasNoEdits, MakeLiteral, moved_edit, removal};
 
 use crate::sources::removal_range;
 use asm_lint::{dropped_crs, offset_in, without_crs};
@@ -19,8 +21,8 @@ use std::alloc::{AllocError, Global};
 /// Returns the edits of a literal with lines that end with LF as edits of its token, which has
 /// these CRs more. Returns `Err` if an allocation fails.
 fn token_edits(alloc: Global, crs: &[usize], edits: &[Edit]) -> Result<Vec<Edit>, AllocError>
-    ensures { IfOk result (λ v. map (λ e. e.text) (map seen_edit v.items)
-        ≡ map (λ e. e.text) (map seen_edit edits.now)) }
+    ensures { IfOk result (λ v. AreInToken crs.now (map seen_edit edits.now)
+        (map seen_edit v.items)) }
 {
     let mut list = Vec::new(alloc);
     for edit in edits {
@@ -32,38 +34,21 @@ fn token_edits(alloc: Global, crs: &[usize], edits: &[Edit]) -> Result<Vec<Edit>
     Ok(list)
 }
 
-/// Returns an edit that stands some bytes further on, or `None` if an offset is too large. Returns
-/// `Err` if an allocation fails.
-fn move_edit(alloc: Global, edit: &Edit, offset: usize) -> Result<Option<Edit>, AllocError>
-    ensures { IfOk result (λ o. IfSome o (λ e. seen_edit e
-        ≡ moved_edit offset (seen_edit edit.now))) }
-{
-    let (Some(start), Some(end)) = (
-        offset.checked_add(edit.span.start),
-        offset.checked_add(edit.span.end),
-    ) else {
-        return Ok(None);
-    };
-    Ok(Some(Edit {
-        span: start..end,
-        text: String::from_str(alloc, edit.text.as_str())?,
-    }))
-}
-
-/// Returns edits that stand some bytes further on, or `None` if an offset is too large. Returns
-/// `Err` if an allocation fails.
-fn move_edits(alloc: Global, edits: &[Edit], offset: usize) -> Result<Option<Vec<Edit>>, AllocError>
-    ensures { IfOk result (λ o. IfSome o (λ v. map seen_edit v.items
-        ≡ map (moved_edit offset) (map seen_edit edits.now))) }
+/// Returns edits that stand some bytes further on. Returns `Err` if an allocation fails.
+fn move_edits(alloc: Global, edits: &[Edit], offset: usize) -> Result<Vec<Edit>, AllocError>
+    ensures { IfOk result (λ v. map seen_edit v.items
+        ≡ map (moved_edit offset) (map seen_edit edits.now)) }
 {
     let mut list = Vec::new(alloc);
     for edit in edits {
-        let Some(edit) = move_edit(alloc, edit, offset)? else {
-            return Ok(None);
-        };
-        list.push(edit)?;
+        let start = offset.saturating_add(edit.span.start);
+        let end = offset.saturating_add(edit.span.end);
+        list.push(Edit {
+            span: start..end,
+            text: String::from_str(alloc, edit.text.as_str())?,
+        })?;
     }
-    Ok(Some(list))
+    Ok(list)
 }
 
 /// Adds the edits that remove the arguments of these indices, with their source. Returns `Err` if
@@ -94,10 +79,27 @@ fn push_removals(
 /// Returns whether a token, without the CR before each LF, is this literal. Returns `Err` if an
 /// allocation fails.
 fn is_literal(alloc: Global, token: &str, literal: &str) -> Result<bool, AllocError>
-    ensures { IfOk result (λ b. IsTrue b → without_crs (chars token.now) ≡ chars literal.now) }
+    ensures { IfOk result (λ b. IsTrue b ↔ (without_crs (chars token.now) ≡ chars literal.now)) }
 {
     let text = without_crs(alloc, token)?;
     Ok(text.as_str() == literal)
+}
+
+/// Returns whether a token with these edits is the new literal, up to the CR before each LF.
+/// Returns `Err` if an allocation fails.
+fn make_literal(
+    alloc: Global,
+    literal: Token<'_>,
+    inlining: &InlinedCall,
+    edits: &[Edit],
+) -> Result<bool, AllocError>
+    ensures { IfOk result (λ b. IsTrue b
+        ↔ MakeLiteral (leaf literal.entry) (seen_inlined inlining.now) (map seen_edit edits.now)) }
+{
+    match apply_edits(alloc, literal.text, edits)? {
+        Some(new) => is_literal(alloc, new.as_str(), inlining.literal.as_str()),
+        None => Ok(false),
+    }
 }
 
 /// Returns the edits of the literal that a token is, as edits of its file, or `None` if the token
@@ -107,18 +109,17 @@ fn literal_edits(
     literal: Token<'_>,
     inlining: &InlinedCall,
 ) -> Result<Option<Vec<Edit>>, AllocError>
-    ensures { IfOk result (λ o. IfSome o (λ v.
-        AreLiteralEdits (leaf literal.entry) (seen_inlined inlining.now) (map seen_edit v.items))) }
+    ensures { IfOk result (λ o. MatchOption o
+        (HasNoEdits (leaf literal.entry) (seen_inlined inlining.now))
+        (λ v. AreLiteralEdits (leaf literal.entry) (seen_inlined inlining.now)
+        (map seen_edit v.items))) }
 {
     let crs = dropped_crs(alloc, literal.text)?;
     let inside_edits = token_edits(alloc, &crs, inlining.edits.as_slice())?;
-    let Some(new) = apply_edits(alloc, literal.text, &inside_edits)? else {
-        return Ok(None);
-    };
-    if !is_literal(alloc, new.as_str(), inlining.literal.as_str())? {
+    if !make_literal(alloc, literal, inlining, &inside_edits)? {
         return Ok(None);
     }
-    move_edits(alloc, inside_edits.as_slice(), literal.start)
+    Ok(Some(move_edits(alloc, &inside_edits, literal.start)?))
 }
 
 /// Returns the edits that inline a call, with this token as its literal and these arguments after
@@ -132,8 +133,10 @@ pub(crate) fn edits_of(
     arguments: &[Argument],
     inlining: &InlinedCall,
 ) -> Result<Option<Vec<Edit>>, AllocError>
-    ensures { IfOk result (λ o. IfSome o (λ v. AreEdits text.now (map leaf tokens.now)
-        (leaf literal.entry) arguments.now (seen_inlined inlining.now) (map seen_edit v.items))) }
+    ensures { IfOk result (λ o. MatchOption o
+        (HasNoEdits (leaf literal.entry) (seen_inlined inlining.now))
+        (λ v. AreEdits text.now (map leaf tokens.now) (leaf literal.entry) arguments.now
+        (seen_inlined inlining.now) (map seen_edit v.items))) }
 {
     let Some(mut edits) = literal_edits(alloc, literal, inlining)? else {
         return Ok(None);

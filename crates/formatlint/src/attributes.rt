@@ -74,24 +74,48 @@ struct Scan<'a> {
     found: AllowedParts,
 }
 
-/// Returns whether a token is a name of the lint, or of the group that it is in.
+/// The group of all lints that warn.
+const ALL_WARNINGS: &str = "warnings";
+
+/// Returns whether a token is a name of the lint, or of a group that it is in.
 fn is_lint(lint: Lint, token: Token<'_>) -> bool {
     let token = Some(token);
+    if is_named(token, ALL_WARNINGS) {
+        return true;
+    }
     match lint {
         Lint::Arguments => is_named(token, "uninlined_format_args") || is_named(token, "pedantic"),
         Lint::Positions => is_named(token, "named_arguments_used_positionally"),
     }
 }
 
-/// Returns whether a text can have an attribute that allows the lint.
+/// Returns whether a text can have an attribute.
+pub fn has_attribute(text: &str) -> bool {
+    text.contains('#')
+}
+
+/// Returns whether a text has a word after one that allows lints.
+fn may_allow_word(text: &str, word: &str) -> bool {
+    if !text.contains(word) {
+        return false;
+    }
+    let (front, _) = text.rsplit_once(word).unwrap_or((text, ""));
+    front.contains("allow") || front.contains("expect")
+}
+
+/// Returns whether a text with attributes can have one that allows the lint.
 fn may_allow(lint: Lint, text: &str) -> bool {
+    if may_allow_word(text, ALL_WARNINGS) {
+        return true;
+    }
     match lint {
         Lint::Arguments => {
-            text.contains("uninlined_format_args")
-                || text.contains("pedantic")
+            may_allow_word(text, "uninlined_format_args")
+                || may_allow_word(text, "pedantic")
                 || text.contains("msrv")
         }
-        Lint::Positions => text.contains("named_arguments_used_positionally"),
+        // (the end of its name: Rust's library finds up to 32 bytes sixteen at a time)
+        Lint::Positions => may_allow_word(text, "used_positionally"),
     }
 }
 
@@ -262,7 +286,7 @@ pub fn allowed_parts(alloc: Global, text: &str, lint: Lint) -> Result<AllowedPar
             has_module: false,
         },
     };
-    if may_allow(lint, text) {
+    if has_attribute(text) && may_allow(lint, text) {
         let mut rest = Tokens::new(text);
         for _ in 0..u64::MAX {
             match rest.next() {

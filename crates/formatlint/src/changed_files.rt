@@ -3,13 +3,41 @@
 use crate::attributes::{Lint, allowed_parts};
 use crate::files::Run;
 use crate::output::{write, write_shown};
+use crate::own_rows::own_report;
 use crate::reading::{Extent, Origin};
-use crate::rewrites::{RewrittenFile, apply_rewrite, keep_certain};
+use crate::rewrites::{RewrittenFile, apply_certainly, apply_rewrite, may_call_others};
+use file_paths::shown_path;
 use lint_program::{Change, Failure, LeftText, replace};
+use macro_owners::certain_table;
 use manifest::FileRules;
 use shown_text::{Kind, put_shown};
-use std::alloc::AllocError;
+use source_report::Options;
+use std::alloc::{AllocError, Global};
 use unified_diff::put_diff;
+
+/// Returns a file after a change with the report that also has the calls of its own macros. Returns
+/// `Err` if an allocation fails.
+fn with_own_calls(
+    alloc: Global,
+    text: &str,
+    outcome: RewrittenFile,
+    options: &Options<'_>,
+) -> Result<RewrittenFile, AllocError> {
+    let own = match &outcome.text {
+        Some(new) => own_report(alloc, new.as_str(), options)?,
+        None => own_report(alloc, text, options)?,
+    };
+    match own {
+        Some(report) => Ok(RewrittenFile {
+            text: outcome.text,
+            fixes: outcome.fixes,
+            calls: outcome.calls,
+            has_inlines: outcome.has_inlines,
+            report,
+        }),
+        None => Ok(outcome),
+    }
+}
 
 impl<'a> Run<'a> {
     /// Writes the new text of a file where the request says. Returns whether that was done.
@@ -31,7 +59,8 @@ impl<'a> Run<'a> {
             }
             Change::Check => {
                 let mut line = String::new(rt.alloc());
-                put_shown(&mut line, Kind::Line, path)?;
+                let path = shown_path(rt.alloc(), path)?;
+                put_shown(&mut line, Kind::Line, path.as_str())?;
                 line.push('\n')?;
                 write(rt, line.as_str())?;
             }
@@ -50,10 +79,13 @@ impl<'a> Run<'a> {
     }
 
     /// Returns a text with what the request changes in it, in calls whose macro is known for
-    /// certain. The sources of the package are read only if any call would change.
+    /// certain. The sources of the package are read only if any call would change, and the facts of
+    /// the file again only if those of the package with them leave a call in doubt. Where those of
+    /// the package are read and leave one in doubt, calls are inlined by them at once.
     fn rewritten(
         &mut self,
         rt: &HostRuntime,
+        path: &str,
         text: &str,
         origin: Origin<'_>,
         rules: FileRules,
@@ -64,6 +96,15 @@ impl<'a> Run<'a> {
             && allowed_parts(rt.alloc(), text, Lint::Arguments)?
                 .ranges
                 .is_empty();
+        if rewrite.inlines && !rewrite.fixes && self.leaves_doubt(text, rules) {
+            return apply_certainly(
+                rt.alloc(),
+                text,
+                &self.options,
+                &self.sources.facts,
+                rewrite,
+            );
+        }
         let mut outcome = apply_rewrite(rt.alloc(), text, &self.options, rewrite)?;
         if outcome.text.is_none() {
             return Ok(outcome);
@@ -72,9 +113,17 @@ impl<'a> Run<'a> {
         if rewrite.inlines && self.sources.allows_arguments {
             rewrite.inlines = false;
             outcome = apply_rewrite(rt.alloc(), text, &self.options, rewrite)?;
+            if outcome.text.is_none() {
+                return Ok(outcome);
+            }
         }
-        let facts = &self.sources.facts;
-        keep_certain(rt.alloc(), text, &self.options, facts, rewrite, outcome)
+        let is_known = rules.package.is_none() || self.sources.has_file(rt, path);
+        let (options, facts) = (&self.options, &self.sources.facts);
+        let table = certain_table(rt.alloc(), &options.table, facts, facts)?;
+        if is_known && !may_call_others(text, &options.table, &table) {
+            return Ok(outcome);
+        }
+        apply_certainly(rt.alloc(), text, options, facts, rewrite)
     }
 
     /// Changes a file that was read whole, and writes what the request wants of it.
@@ -87,7 +136,8 @@ impl<'a> Run<'a> {
         change: Change,
         rules: FileRules,
     ) -> Result<(), Failure> {
-        let mut outcome = self.rewritten(rt, text, origin, rules)?;
+        let rewritten = self.rewritten(rt, path, text, origin, rules)?;
+        let mut outcome = with_own_calls(rt.alloc(), text, rewritten, &self.options)?;
         let is_source = matches!(origin, Origin::Stdin) && change == Change::Write;
         let new_text = outcome.text.take();
         let Some(new) = &new_text else {

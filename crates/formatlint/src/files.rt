@@ -3,6 +3,7 @@
 ghost use Rattle.std.specs.Prelude.{◌≡◌};
 
 use crate::output::{write, write_shown};
+use crate::own_rows::file_report;
 use crate::package_sources::PackageSources;
 use crate::reading::{
     Extent, FileText, Origin, SourceFile, break_words, open_source, read_all, text_of,
@@ -10,14 +11,14 @@ use crate::reading::{
 use crate::rewrites::Rewrite;
 use crate::totals::Totals;
 use crate::walk::Walk;
+use file_paths::{fs, shown_path};
 use finding_forms::{File, put_end, put_finding, put_start};
+use format_calls::Table;
 use lint_program::{Change, Failure, is_option, print_hint};
 use lint_words::Form;
 use manifest::{FileRules, Packages};
 use rust_trees::Places;
-use source_lint::file_faults;
 use source_report::{Options, Report};
-use std::fs;
 
 /// The number of bytes of messages above which they are written, although more may come.
 const CHUNK: usize = 1 << 16;
@@ -52,6 +53,8 @@ pub struct Run<'a> {
     pub packages: Packages,
     /// What the sources of the package of the last file say, if that mattered.
     pub sources: PackageSources,
+    /// The macros that these sources leave in no doubt in a file that says nothing of names.
+    pub certain: Table<'a>,
     pub totals: Totals,
     /// The text that is still to be written.
     out: String,
@@ -135,8 +138,16 @@ impl<'a> Run<'a> {
         if report.findings.is_empty() && !is_broken {
             return Ok(());
         }
-        let places = Places::new(rt.alloc(), text)?;
-        let file = File { path, text, places };
+        let shown_path = shown_path(rt.alloc(), path)?;
+        let file = File {
+            // A URI has the bytes of a path.
+            path: match self.request.form {
+                Form::Sarif => path,
+                _ => shown_path.as_str(),
+            },
+            text,
+            places: Places::new(rt.alloc(), text)?,
+        };
         if !matches!(self.request.change, Some(Change::Diff | Change::Check)) {
             self.put_findings(rt, &file, report)?;
             self.flush(rt)?;
@@ -155,7 +166,7 @@ impl<'a> Run<'a> {
         origin: Origin<'_>,
         rules: FileRules,
     ) -> Result<(), Failure> {
-        let mut report = file_faults(rt.alloc(), text, &self.options)?;
+        let mut report = file_report(rt.alloc(), text, &self.options)?;
         self.drop_unwanted(rt, text, origin, rules, &mut report)?;
         self.totals.add(&report);
         self.put_report(rt, path, text, extent, &report)
@@ -311,6 +322,9 @@ pub fn lint<'a>(
         options,
         packages: Packages::new(rt, request.edition, request.rewrite.inlines),
         sources: PackageSources::new(rt),
+        certain: Table {
+            rows: Vec::new(rt.alloc()),
+        },
         totals: Totals::new(rt),
         out: String::new(rt.alloc()),
         has_messages: false,

@@ -66,13 +66,13 @@ impl Inlinings {
 
     /// Counts the calls of a file.
     pub fn add(&mut self, file: &RewrittenFile) {
-        self.uncertain_calls = self.uncertain_calls.saturating_add(file.uncertain_calls);
         for call in &file.calls {
             match *call {
                 CallInlining::Inlined if file.has_inlines => count(&mut self.inlined_calls),
                 CallInlining::Inlined => count(&mut self.spoiled_calls),
                 CallInlining::Unchanged(reason) => self.add_obstacle(reason),
                 CallInlining::Assembly => count(&mut self.assembly),
+                CallInlining::Uncertain => count(&mut self.uncertain_calls),
                 CallInlining::Unread(_) => {}
             }
         }

@@ -6,6 +6,7 @@ mod changed_files;
 mod files;
 mod inlinings;
 mod output;
+mod own_rows;
 mod package_sources;
 mod reading;
 mod rewrites;
@@ -17,6 +18,7 @@ use clap::error::ErrorKind;
 use clap::{ArgMatches, Error};
 use drawn_lines::WIDTH;
 use fault_rules::{RULES, put_explanation, rule_of};
+use file_paths::{args, shown_path};
 use files::{Request, lint};
 use lint_program::{
     Change, VERSION, change_of, command, form_of, has_colours, literal_status, print_failure,
@@ -28,7 +30,7 @@ use rewrites::Rewrite;
 use shown_text::{Kind, put_shown};
 use source_report::Options;
 use std::alloc::{AllocError, Global};
-use std::env;
+use std::io;
 use std::process::ExitCode;
 use strsim::levenshtein;
 use totals::Totals;
@@ -86,7 +88,7 @@ fn similar_id(alloc: Global, word: &str) -> Result<Option<&'static str>, AllocEr
 /// Returns a word as messages have it. Returns `Err` if an allocation fails.
 fn shown_word(alloc: Global, word: &str) -> Result<String, AllocError> {
     let mut out = String::new(alloc);
-    put_shown(&mut out, Kind::Line, word)?;
+    put_shown(&mut out, Kind::Line, shown_path(alloc, word)?.as_str())?;
     Ok(out)
 }
 
@@ -261,11 +263,11 @@ fn fail(rt: &HostRuntime, reason: &str, status: u8) -> ExitCode {
 }
 
 fn main(rt: HostRuntime) -> ExitCode {
-    let words: Vec<String> = match env::args(&rt) {
-        Ok(words) => match words.collect(rt.alloc()) {
-            Ok(words) => words,
-            Err(_) => return fail(&rt, "out of memory", 3),
-        },
+    let words = match args(&rt) {
+        Ok(words) => words,
+        Err(error) if error.kind() == io::ErrorKind::OutOfMemory => {
+            return fail(&rt, "out of memory", 3);
+        }
         Err(_) => return fail(&rt, "an argument is not UTF-8", 2),
     };
     match status(&rt, words.as_slice()) {

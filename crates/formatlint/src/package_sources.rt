@@ -1,13 +1,15 @@
 //! What the source files of a package say of names of macros and of lints.
 
-use crate::attributes::{Lint, allowed_parts};
+use crate::attributes::{Lint, allowed_parts, has_attribute};
 use crate::walk::is_left_out;
+use file_paths::fs;
+use file_paths::fs::DirEntry;
 use macro_owners::Facts;
 use manifest::Package;
 use std::alloc::AllocError;
-use std::fs::DirEntry;
+use std::collections::BTreeSet;
 use std::io::Read;
-use std::{fs, io, mem};
+use std::{io, mem};
 
 /// The most bytes of a file that are read.
 const MOST: u64 = 64 << 20;
@@ -30,6 +32,8 @@ pub struct PackageSources {
     pub allows_arguments: bool,
     /// Whether the package allows `named_arguments_used_positionally` in all files.
     pub allows_positions: bool,
+    /// The paths from the root on of the files that were read.
+    paths: BTreeSet<String>,
 }
 
 /// Returns the text of a file, or its first 64 MiB and a byte more. Fails if it cannot be read.
@@ -77,12 +81,12 @@ fn is_root(folder: &str, path: &str) -> bool {
 fn put_entry(
     rt: &HostRuntime,
     folder: &str,
-    entry: &DirEntry<HostRuntime>,
+    entry: &DirEntry,
     files: &mut Vec<String>,
     folders: &mut Vec<String>,
 ) -> io::Result<()> {
     let name = entry.file_name();
-    let kind = entry.file_type()?;
+    let kind = entry.file_type(rt)?;
     let path = format!(in rt.alloc(); "{folder}/{name}")?;
     if kind.is_dir() && !is_left_out(name) {
         folders.push(path)?;
@@ -100,12 +104,8 @@ fn put_entries(
     files: &mut Vec<String>,
     folders: &mut Vec<String>,
 ) -> io::Result<()> {
-    for entry in fs::read_dir(rt, folder)? {
-        let result = match entry {
-            Ok(entry) => put_entry(rt, folder, &entry, files, folders),
-            Err(error) => Err(error),
-        };
-        match result {
+    for entry in &fs::read_dir(rt, folder)? {
+        match put_entry(rt, folder, entry, files, folders) {
             Err(error) if !is_no_source(&error) => return Err(error),
             _ => {}
         }
@@ -121,6 +121,7 @@ impl PackageSources {
             facts: Facts::new(rt.alloc()),
             allows_arguments: false,
             allows_positions: false,
+            paths: BTreeSet::new(rt.alloc()),
         }
     }
 
@@ -131,11 +132,17 @@ impl PackageSources {
         Ok(())
     }
 
-    /// Adds what a text says, of the root of a library or a program or of another file. Returns
-    /// `Err` if an allocation fails.
-    fn add_text(&mut self, rt: &HostRuntime, text: &str, is_root: bool) -> Result<(), AllocError> {
-        let facts = mem::replace(&mut self.facts, Facts::new(rt.alloc()));
-        self.facts = facts.with_file(text)?;
+    /// Adds what attributes of a text say, of the root of a library or a program or of another
+    /// file. Returns `Err` if an allocation fails.
+    fn add_attributes(
+        &mut self,
+        rt: &HostRuntime,
+        text: &str,
+        is_root: bool,
+    ) -> Result<(), AllocError> {
+        if !has_attribute(text) {
+            return Ok(());
+        }
         let arguments = allowed_parts(rt.alloc(), text, Lint::Arguments)?;
         if arguments.has_module || is_root && arguments.is_whole {
             self.allows_arguments = true;
@@ -147,13 +154,39 @@ impl PackageSources {
         Ok(())
     }
 
+    /// Reads what attributes of a text say that is in no package, and no facts. Returns `Err` if an
+    /// allocation fails.
+    pub fn read_attributes(&mut self, rt: &HostRuntime, text: &str) -> Result<(), AllocError> {
+        *self = PackageSources::new(rt);
+        self.add_attributes(rt, text, false)
+    }
+
+    /// Adds what a text says, of the root of a library or a program or of another file. Returns
+    /// `Err` if an allocation fails.
+    fn add_text(&mut self, rt: &HostRuntime, text: &str, is_root: bool) -> Result<(), AllocError> {
+        let facts = mem::replace(&mut self.facts, Facts::new(rt.alloc()));
+        self.facts = facts.with_file(text)?;
+        self.add_attributes(rt, text, is_root)
+    }
+
     /// Adds what the file of a path says. Of one that is too long every name is unknown. Returns
     /// `Err` if an allocation fails.
     fn add_path(&mut self, rt: &HostRuntime, path: &str, is_root: bool) -> Result<(), AllocError> {
         match read_text(rt, path) {
-            Ok(text) if text.len() as u64 <= MOST => self.add_text(rt, text.as_str(), is_root),
+            Ok(text) if text.len() as u64 <= MOST => {
+                self.paths.insert(String::from_str(rt.alloc(), path)?)?;
+                self.add_text(rt, text.as_str(), is_root)
+            }
             Err(error) if is_no_source(&error) => Ok(()),
             _ => self.add_name(rt, EVERY_NAME),
+        }
+    }
+
+    /// Returns whether a file was read, so that its facts are among these.
+    pub fn has_file(&self, rt: &HostRuntime, path: &str) -> bool {
+        match fs::canonicalize(rt, path) {
+            Ok(whole_path) => self.paths.contains(whole_path.as_str()),
+            Err(_) => false,
         }
     }
 
@@ -179,6 +212,16 @@ impl PackageSources {
         Ok(())
     }
 
+    /// Returns whether these are the sources of a package, which were read.
+    pub fn is_of(&self, package: Option<&Package>) -> bool {
+        match package {
+            Some(package) => {
+                !self.folder.is_empty() && self.folder.as_str() == package.folder.as_str()
+            }
+            None => false,
+        }
+    }
+
     /// Reads what a package says, of which a file has this text: all source files below its folder.
     /// Without a package it is what the text alone says. Returns `Err` if an allocation fails.
     pub fn read(
@@ -192,9 +235,6 @@ impl PackageSources {
             return self.add_text(rt, text, false);
         };
         let folder = package.folder.as_str();
-        if self.folder.as_str() == folder && !folder.is_empty() {
-            return Ok(());
-        }
         *self = PackageSources::new(rt);
         self.add_folder(rt, if folder.is_empty() { "/" } else { folder })?;
         if renames(package) {

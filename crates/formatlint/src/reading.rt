@@ -1,9 +1,11 @@
 //! Reading the bytes of a file, and the text at their start.
 
 use crate::walk::Walk;
+use file_paths::fs;
 use rust_trees::BreakKind;
+use std::fs::File;
+use std::io;
 use std::io::Read;
-use std::{fs, io};
 
 /// The most bytes of a file that are read.
 const MOST: usize = 64 << 20;
@@ -76,7 +78,7 @@ pub fn read_all<R: Read + Drop>(rt: &HostRuntime, stream: R) -> io::Result<Vec<u
 #[derive(Drop)]
 pub struct SourceFile {
     /// The file.
-    pub file: fs::File,
+    pub file: File,
     /// The bytes.
     pub bytes: Vec<u8>,
 }
@@ -101,7 +103,7 @@ pub fn open_source(
 #[derive(Clone, Copy)]
 pub enum Origin<'f> {
     /// A file, which is still open.
-    File(&'f fs::File),
+    File(&'f File),
     /// Standard input.
     Stdin,
 }

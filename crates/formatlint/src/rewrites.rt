@@ -1,7 +1,7 @@
 //! The text of a file with what a request changes in it.
 
 use file_fixes::fixes;
-use file_inlines::{CallInlining, inlines};
+use file_inlines::{CallInlining, FileInlines, inlines, package_inlines};
 use format_calls::Table;
 use macro_owners::{Facts, certain_table};
 use source_lint::file_faults;
@@ -30,8 +30,6 @@ pub struct RewrittenFile {
     pub calls: Vec<CallInlining>,
     /// Whether the calls that can be inlined are.
     pub has_inlines: bool,
-    /// The number of calls that are left since their macro may be another one.
-    pub uncertain_calls: usize,
     /// The report on the new text.
     pub report: Report,
 }
@@ -44,9 +42,19 @@ fn fix_text(alloc: Global, text: &str, options: &Options<'_>) -> Result<Rewritte
         fixes: file_fixes.ids.len(),
         calls: Vec::new(alloc),
         has_inlines: false,
-        uncertain_calls: 0,
         report: file_fixes.report,
     })
+}
+
+/// Returns a file with calls inlined, and nothing fixed.
+fn inlined_file(file_inlines: FileInlines) -> RewrittenFile {
+    RewrittenFile {
+        has_inlines: file_inlines.text.is_some(),
+        text: file_inlines.text,
+        fixes: 0,
+        calls: file_inlines.calls,
+        report: file_inlines.report,
+    }
 }
 
 /// Returns a text with calls inlined. Returns `Err` if an allocation fails.
@@ -57,14 +65,21 @@ fn inline_text(
     rewrite: Rewrite,
 ) -> Result<RewrittenFile, AllocError> {
     let file_inlines = inlines(alloc, text, options, rewrite.allows_mixed)?;
-    Ok(RewrittenFile {
-        has_inlines: file_inlines.text.is_some(),
-        text: file_inlines.text,
-        fixes: 0,
-        calls: file_inlines.calls,
-        uncertain_calls: 0,
-        report: file_inlines.report,
-    })
+    Ok(inlined_file(file_inlines))
+}
+
+/// Returns a text with calls inlined whose macro is for certain that of its row, by the facts of
+/// the package. Returns `Err` if an allocation fails.
+fn inline_certainly(
+    alloc: Global,
+    text: &str,
+    options: &Options<'_>,
+    package_facts: &Facts,
+    rewrite: Rewrite,
+) -> Result<RewrittenFile, AllocError> {
+    let mixed = rewrite.allows_mixed;
+    let file_inlines = package_inlines(alloc, text, options, package_facts, true, mixed)?;
+    Ok(inlined_file(file_inlines))
 }
 
 /// Returns a text as it is. Returns `Err` if an allocation fails.
@@ -78,7 +93,6 @@ fn unchanged_text(
         fixes: 0,
         calls: Vec::new(alloc),
         has_inlines: false,
-        uncertain_calls: 0,
         report: file_faults(alloc, text, options)?,
     })
 }
@@ -113,30 +127,20 @@ pub fn apply_rewrite(
     Ok(outcome)
 }
 
-/// Returns how many calls are inlined in a file.
-fn inlined_calls(file: &RewrittenFile) -> usize {
-    let mut count = 0usize;
-    for call in &file.calls {
-        if file.has_inlines && matches!(call, CallInlining::Inlined) {
-            count = count.saturating_add(1);
-        }
+/// Returns whether a comment, or white space outside of ASCII, may stand between the name of a
+/// macro and a `!` after this text.
+fn may_hide_name(front: &str) -> bool {
+    let trimmed = front.trim_end();
+    if trimmed.ends_with("*/") || trimmed.chars().next_back().is_some_and(|c| !c.is_ascii()) {
+        return true;
     }
-    count
-}
-
-/// Returns whether a text may call a macro of this name. It may if the name stands in front of an
-/// exclamation mark, or of what can hide one: a comment, or white space outside of ASCII.
-fn may_call(text: &str, name: &str) -> bool {
-    let mut parts = text.split(name);
-    let _ = parts.next();
-    for part in parts {
-        if let Some(c) = part.trim_start().chars().next() {
-            if c == '!' || c == '/' || !c.is_ascii() {
-                return true;
-            }
+    match front.rsplit_once('\n') {
+        Some((_, indent)) if indent.trim_end().is_empty() => {
+            let (_, line) = trimmed.rsplit_once('\n').unwrap_or(("", trimmed));
+            line.contains("//")
         }
+        _ => false,
     }
-    false
 }
 
 /// Returns whether a table has a row of this name.
@@ -149,49 +153,82 @@ fn has_row(table: &Table<'_>, name: &str) -> bool {
     false
 }
 
-/// Returns whether a text may call a macro of a table that is not in `certain`, which has some of
-/// its rows.
-pub fn may_call_others(text: &str, table: &Table<'_>, certain: &Table<'_>) -> bool {
+/// Returns whether a text before a `!` ends with a name of a table that is not in `certain`.
+fn ends_with_other(front: &str, table: &Table<'_>, certain: &Table<'_>) -> bool {
     for row in &table.rows {
-        if !has_row(certain, row.name) && may_call(text, row.name) {
+        if front.ends_with(row.name) && !has_row(certain, row.name) {
             return true;
         }
     }
     false
 }
 
-/// Returns a text with what a request changes in it in calls of macros that are for certain those
-/// of the table, by the facts of the package, where `outcome` has what it would change in all
-/// calls. The report is on all calls. Returns `Err` if an allocation fails.
-pub fn keep_certain(
+/// Returns whether a text may call a macro of a table that is not in `certain`, which has some of
+/// its rows.
+pub fn may_call_others(text: &str, table: &Table<'_>, certain: &Table<'_>) -> bool {
+    for front in text.split('!') {
+        if may_hide_name(front) || ends_with_other(front.trim_end(), table, certain) {
+            return true;
+        }
+    }
+    false
+}
+
+/// Returns a text with suggestions applied to calls whose macro is for certain that of its row, by
+/// the facts of the package, with a report on all calls. Returns `Err` if an allocation fails.
+fn fix_certainly(
+    alloc: Global,
+    text: &str,
+    options: &Options<'_>,
+    package_facts: &Facts,
+) -> Result<RewrittenFile, AllocError> {
+    let file_facts = Facts::new(alloc).with_file(text)?;
+    let certain_options = Options {
+        table: certain_table(alloc, &options.table, package_facts, &file_facts)?,
+        is_from_2021: options.is_from_2021,
+    };
+    let fixed_file = fix_text(alloc, text, &certain_options)?;
+    let report = match &fixed_file.text {
+        Some(text) => file_faults(alloc, text.as_str(), options)?,
+        None => file_faults(alloc, text, options)?,
+    };
+    Ok(RewrittenFile {
+        text: fixed_file.text,
+        fixes: fixed_file.fixes,
+        calls: fixed_file.calls,
+        has_inlines: fixed_file.has_inlines,
+        report,
+    })
+}
+
+/// Returns a text with what a request changes in it, as [`apply_rewrite`] does, but only in calls
+/// whose macro is for certain that of its row, by the facts of the package. The report is on all
+/// calls. Returns `Err` if an allocation fails.
+pub fn apply_certainly(
     alloc: Global,
     text: &str,
     options: &Options<'_>,
     package_facts: &Facts,
     rewrite: Rewrite,
-    outcome: RewrittenFile,
 ) -> Result<RewrittenFile, AllocError> {
-    let file_facts = Facts::new(alloc).with_file(text)?;
-    let table = certain_table(alloc, &options.table, package_facts, &file_facts)?;
-    if !may_call_others(text, &options.table, &table) {
-        return Ok(outcome);
+    if !rewrite.fixes {
+        return if rewrite.inlines {
+            inline_certainly(alloc, text, options, package_facts, rewrite)
+        } else {
+            unchanged_text(alloc, text, options)
+        };
     }
-    let certain_options = Options {
-        table,
-        is_from_2021: options.is_from_2021,
+    let fixed_file = fix_certainly(alloc, text, options, package_facts)?;
+    if !rewrite.inlines {
+        return Ok(fixed_file);
+    }
+    let mut outcome = match &fixed_file.text {
+        Some(text) => inline_certainly(alloc, text.as_str(), options, package_facts, rewrite)?,
+        None => inline_certainly(alloc, text, options, package_facts, rewrite)?,
     };
-    let file = apply_rewrite(alloc, text, &certain_options, rewrite)?;
-    let report = match &file.text {
-        Some(text) => file_faults(alloc, text.as_str(), options)?,
-        None => file_faults(alloc, text, options)?,
-    };
-    let uncertain_calls = inlined_calls(&outcome).saturating_sub(inlined_calls(&file));
-    Ok(RewrittenFile {
-        text: file.text,
-        fixes: file.fixes,
-        calls: file.calls,
-        has_inlines: file.has_inlines,
-        uncertain_calls,
-        report,
-    })
+    outcome.fixes = fixed_file.fixes;
+    if outcome.text.is_none() {
+        outcome.text = fixed_file.text;
+    }
+    Ok(outcome)
 }

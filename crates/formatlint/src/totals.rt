@@ -2,6 +2,7 @@
 
 use crate::inlinings::{Inlinings, NO_CALLS};
 use crate::rewrites::RewrittenFile;
+use file_paths::shown_path;
 use format_calls::Reason;
 use lint_program::{LeftText, Progress, StepFailure};
 use lint_words::{put_failure, put_place_failure, system_words};
@@ -79,11 +80,27 @@ fn put_step(out: &mut String, path: &str, failure: &StepFailure) -> Result<(), A
     }
     if let Some(old_path) = &failure.old_path {
         reason.push_str("; its old text is in ")?;
-        reason.push_str(old_path.as_str())?;
+        reason.push_str(shown_path(alloc, old_path.as_str())?.as_str())?;
     } else if failure.left == LeftText::Part {
         reason.push_str("; its old text is lost")?;
     }
-    put_failure(out, path, RunFault::Write, reason.as_str())
+    let path = shown_path(alloc, path)?;
+    put_failure(out, path.as_str(), RunFault::Write, reason.as_str())
+}
+
+/// Appends the line that says why the file or folder with this path was not read. Returns `Err` if
+/// an allocation fails.
+fn put_words(out: &mut String, path: &str, words: &str) -> Result<(), AllocError> {
+    let alloc = *out.allocator();
+    let (path, words) = (shown_path(alloc, path)?, shown_path(alloc, words)?);
+    put_failure(out, path.as_str(), RunFault::Read, words.as_str())
+}
+
+/// Appends the line that says why the file with this path was not read from a place on. Returns
+/// `Err` if an allocation fails.
+fn put_place(out: &mut String, path: &str, place: Place, words: &str) -> Result<(), AllocError> {
+    let path = shown_path(*out.allocator(), path)?;
+    put_place_failure(out, path.as_str(), place, words)
 }
 
 /// Returns the words for a key of a manifest whose value is none.
@@ -233,7 +250,7 @@ impl Totals {
     fn show_words(&mut self, rt: &HostRuntime, path: &str, words: &str) {
         self.progress.clear(rt);
         let mut out = String::new(rt.alloc());
-        let _ = match put_failure(&mut out, path, RunFault::Read, words) {
+        let _ = match put_words(&mut out, path, words) {
             Ok(()) => rt.eprint(out.as_str()),
             Err(_) => rt.eprintln("formatlint: out of memory"),
         };
@@ -271,7 +288,7 @@ impl Totals {
         count(&mut self.failures);
         self.progress.clear(rt);
         let mut out = String::new(rt.alloc());
-        let _ = match put_place_failure(&mut out, path, place, reason) {
+        let _ = match put_place(&mut out, path, place, reason) {
             Ok(()) => rt.eprint(out.as_str()),
             Err(_) => rt.eprintln("formatlint: out of memory"),
         };

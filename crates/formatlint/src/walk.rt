@@ -1,10 +1,12 @@
 //! The source files below a folder.
 
 use crate::totals::Totals;
+use file_paths::fs;
+use file_paths::fs::DirEntry;
 use lint_program::{is_same, name_before, path_of};
 use std::alloc::{AllocError, Global};
-use std::fs::{DirEntry, File};
-use std::{fs, io};
+use std::fs::{File, symlink_metadata};
+use std::io;
 
 /// A file or a folder.
 #[derive(PartialEq, Eq, PartialOrd, Ord, Drop)]
@@ -78,7 +80,7 @@ impl<'a> Walk<'a> {
     /// not say the path of an open file, this is known of the file itself alone.
     pub fn holds(&self, rt: &HostRuntime, path: &str, file: &File) -> io::Result<bool> {
         let Some(real_folder) = &self.real_folder else {
-            return Ok(is_same(&fs::symlink_metadata(rt, path)?, &file.metadata()?));
+            return Ok(is_same(&symlink_metadata(rt, path)?, &file.metadata()?));
         };
         let real_path = path_of(rt, file)?;
         let found = real_path.as_str().strip_prefix(real_folder.as_str());
@@ -91,7 +93,7 @@ impl<'a> Walk<'a> {
         &self,
         rt: &HostRuntime,
         folder: &str,
-        entry: &DirEntry<HostRuntime>,
+        entry: &DirEntry,
         entries: &mut Vec<Entry>,
         totals: &mut Totals,
     ) -> io::Result<()> {
@@ -99,7 +101,7 @@ impl<'a> Walk<'a> {
         if self.excluded_names.contains(&name) {
             return Ok(());
         }
-        let kind = entry.file_type()?;
+        let kind = entry.file_type(rt)?;
         let is_folder = kind.is_dir();
         let is_read = if is_folder {
             !is_left_out(name)
@@ -132,12 +134,8 @@ impl<'a> Walk<'a> {
     ) -> io::Result<Vec<Entry>> {
         let path = shown_folder(folder);
         let mut entries = Vec::new(rt.alloc());
-        for entry in fs::read_dir(rt, path)? {
-            let result = match entry {
-                Ok(entry) => self.add(rt, folder, &entry, &mut entries, totals),
-                Err(error) => Err(error),
-            };
-            if let Err(error) = result {
+        for entry in &fs::read_dir(rt, path)? {
+            if let Err(error) = self.add(rt, folder, entry, &mut entries, totals) {
                 totals.fail(rt, path, &error);
             }
         }

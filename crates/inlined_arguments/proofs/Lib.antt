@@ -1,6 +1,6 @@
 pub mod Apart
 pub mod CleanPieces
 pub mod Comparing
+pub mod Keeping
 pub mod Naming
-pub mod Placing
 pub mod Widths

@@ -11,7 +11,7 @@ use Rattle.call_faults.specs.Arguments.{FormatArgument}
 use Rattle.inlined_arguments.specs.Variables.{Argument, variable}
 
 -- A value: a variable, or an argument that is none. An argument that stays keeps its tokens, so it
--- is named by its index among all that were given: of two with the same tokens each stays itself.
+-- is named by its index among those that stay: of two with the same tokens each stays itself.
 pub data Value : Type 0 where
   Variable : Text → Value
   Expression : ℕ → Value
@@ -26,18 +26,19 @@ pub record Slot : Type 0 where
   pub name : Option Text
   pub value : Value
 
--- The value of the argument with the index i.
+-- The value of an argument after n others that stay.
 abbrev pub slot_value : ℕ → Argument → Value
-slot_value i a = option_map_or Variable (variable a) (Expression i)
+slot_value n a = option_map_or Variable (variable a) (Expression n)
 
--- The slot of the argument with the index i.
+-- The slot of an argument after n others that stay.
 abbrev pub slot : ℕ → Argument → Slot
-slot i a = record { name = a.name; value = slot_value i a }
+slot n a = record { name = a.name; value = slot_value n a }
 
--- The slots of these arguments, the first of which has the index i.
+-- The slots of these arguments after n others that stay.
 abbrev pub slots_from : ℕ → List Argument → List Slot
-slots_from i [] = []
-slots_from i (a ∷ args) = slot i a ∷ slots_from (suc i) args
+slots_from n [] = []
+slots_from n (a ∷ args) = slot n a
+    ∷ slots_from (if is_expression (slot_value n a) then suc n else n) args
 
 -- The slots of a call.
 abbrev pub slots : List Argument → List Slot

@@ -16,13 +16,17 @@ use Rattle.inlined_arguments.specs.declared.values.Amount.{Amount as DeclaredAmo
 use Rattle.inlined_arguments.specs.declared.values.Amount.TheVariants.{Number as NumberIn}
 use Rattle.inlined_arguments.specs.declared.values.Amount.TheVariants.{ValueOf as ValueIn}
 use Rattle.inlined_arguments.specs.declared.values.Amount.TheVariants.{Absent as AbsentIn}
+use Rattle.inlined_arguments.specs.declared.edits.Reference.{Reference as DeclaredReference}
+use Rattle.inlined_arguments.specs.declared.edits.Reference.TheVariants.{WrittenName as NameIn}
+use Rattle.inlined_arguments.specs.declared.edits.Reference.TheVariants.{WrittenIndex as IndexIn}
+use Rattle.inlined_arguments.specs.declared.edits.Reference.TheVariants.{Unwritten as NeitherIn}
 use Rattle.inlined_arguments.specs.declared.slots.Slot.{Slot as DeclaredSlot}
 use Rattle.inlined_arguments.specs.declared.slots.Value.{Value as DeclaredValue}
 use Rattle.inlined_arguments.specs.declared.slots.Value.TheVariants.{Variable as VariableIn}
 use Rattle.inlined_arguments.specs.declared.slots.Value.TheVariants.{Expression as ExpressionIn}
 use Rattle.inlined_arguments.specs.declared.values.Values.{Values}
 use Rattle.inlined_arguments.specs.Conditions.{Call}
-use Rattle.inlined_arguments.specs.Edits.{Edit}
+use Rattle.inlined_arguments.specs.Edits.{Edit, Reference, Unwritten, WrittenIndex, WrittenName}
 use Rattle.inlined_arguments.specs.Inlining.{InlinedCall}
 use Rattle.inlined_arguments.specs.Values.{Amount, Number, ValueOf, Absent}
 use Rattle.inlined_arguments.specs.Values.{Value, Variable, Expression, Slot, value_after}
@@ -57,7 +61,13 @@ seen_edit e = record { span = pair e.span; text = string_bytes e.text }
 -- A value as a contract sees it.
 abbrev pub seen_value : DeclaredValue → Value
 seen_value (VariableIn w) = Variable (text w)
-seen_value (ExpressionIn i n) = Expression i
+seen_value (ExpressionIn n) = Expression n
+
+-- A reference as a contract sees it.
+abbrev pub seen_reference : DeclaredReference → Reference
+seen_reference (NameIn w) = WrittenName (text w)
+seen_reference (IndexIn n) = WrittenIndex n
+seen_reference NeitherIn = Unwritten
 
 -- A slot as a contract sees it.
 abbrev pub seen_slot : DeclaredSlot → Slot

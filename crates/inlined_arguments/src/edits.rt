@@ -1,14 +1,18 @@
 //! The edits that put variables into a literal.
 
-ghost use Rattle.std.specs.Prelude.{◌++◌, ◌∷◌, [], IfOk, List, OnOk, map, option_map};
-ghost use Rattle.std.specs.Option.{option_to_list};
-ghost use Rattle.rustc_parse_format.specs.Views.{pair, seen_piece};
-ghost use Rattle.rustc_parse_format.specs.World.{Place};
-ghost use Rattle.inlined_arguments.specs.Edits.{AreAt, AreAtReferences, reference_places};
-ghost use Rattle.inlined_arguments.specs.Views.{seen_edit};
+ghost use Rattle.std.specs.Prelude.{◌≡◌, ◌++◌, IfOk, OnOk, Some, chars, encode_utf8_all, map};
+ghost use Rattle.std.specs.Prelude.{option_map, string_bytes};
+ghost use Rattle.rustc_parse_format.specs.Views.{pair, seen_argument, seen_count, seen_piece};
+ghost use Rattle.rustc_parse_format.specs.Views.{seen_position};
+ghost use Rattle.inlined_arguments.specs.Edits.{count_edits, count_reference, edit_at, new_edits};
+ghost use Rattle.inlined_arguments.specs.Edits.{new_count_text, new_text, piece_edits};
+ghost use Rattle.inlined_arguments.specs.Edits.{position_edits, position_reference};
+ghost use Rattle.inlined_arguments.specs.Values.{amount_of};
+ghost use Rattle.inlined_arguments.specs.Views.{Knows, seen_amount, seen_edit, seen_reference};
+ghost use Rattle.inlined_arguments.specs.Views.{seen_slots, seen_value};
 
 use crate::call::Edit;
-use crate::meaning::CallMeaning;
+use crate::meaning::{CallMeaning, is_same_text};
 use crate::slots::Value;
 use crate::values::{Amount, Values, amount_of, position_value};
 use itoa::Buffer;
@@ -19,30 +23,41 @@ use std::ops::Range;
 /// How a part of a placeholder refers to an argument.
 #[derive(Clone, Copy)]
 enum Reference<'a> {
-    /// By a name.
-    Name(&'a str),
+    /// By a name that is written.
+    WrittenName(&'a str),
     /// By an index that is written.
-    Index(usize),
+    WrittenIndex(usize),
     /// As to the next one, or not at all.
-    Other,
+    Unwritten,
 }
 
 /// Returns how a position refers to an argument.
-fn position_reference<'a>(position: &Position<'a>) -> Reference<'a> {
+fn position_reference<'a>(position: &Position<'a>) -> Reference<'a>
+    ensures { seen_reference result ≡ position_reference (seen_position position.now) }
+{
     match position {
-        Position::ArgumentNamed(name) => Reference::Name(name),
-        Position::ArgumentIs(n) => Reference::Index(*n),
-        Position::ArgumentImplicitlyIs(_) => Reference::Other,
+        Position::ArgumentNamed(name) => Reference::WrittenName(name),
+        Position::ArgumentIs(n) => Reference::WrittenIndex(*n),
+        Position::ArgumentImplicitlyIs(_) => Reference::Unwritten,
     }
 }
 
 /// Returns how a width or a precision refers to an argument.
-fn count_reference<'a>(count: &Count<'a>) -> Reference<'a> {
+fn count_reference<'a>(count: &Count<'a>) -> Reference<'a>
+    ensures { seen_reference result ≡ count_reference (seen_count count.now) }
+{
     match count {
-        Count::CountIsName(name, _) => Reference::Name(name),
-        Count::CountIsParam(n) => Reference::Index(*n),
-        Count::CountIs(_) | Count::CountIsStar(_) | Count::CountImplied => Reference::Other,
+        Count::CountIsName(name, _) => Reference::WrittenName(name),
+        Count::CountIsParam(n) => Reference::WrittenIndex(*n),
+        Count::CountIs(_) | Count::CountIsStar(_) | Count::CountImplied => Reference::Unwritten,
     }
+}
+
+/// Returns a name as a text of its own. Returns `Err` if an allocation fails.
+fn name_text(alloc: Global, name: &str) -> Result<String, AllocError>
+    ensures { IfOk result (λ s. string_bytes s ≡ encode_utf8_all (chars name.now)) }
+{
+    Ok(String::from_str(alloc, name)?)
 }
 
 /// Returns the new text of a reference to this value, or `None` if it stays as it is: a name that
@@ -52,21 +67,24 @@ fn new_text(
     alloc: Global,
     reference: Reference<'_>,
     value: Value<'_>,
-) -> Result<Option<String>, AllocError> {
+) -> Result<Option<String>, AllocError>
+    ensures { IfOk result (λ o. option_map string_bytes o
+        ≡ new_text (seen_reference reference.entry) (seen_value value.entry)) }
+{
     match (value, reference) {
-        (Value::Variable(name), Reference::Name(other)) => {
-            if name == other {
+        (Value::Variable(name), Reference::WrittenName(other)) => {
+            if is_same_text(name, other) {
                 return Ok(None);
             }
-            Ok(Some(String::from_str(alloc, name)?))
+            Ok(Some(name_text(alloc, name)?))
         }
-        (Value::Variable(name), _) => Ok(Some(String::from_str(alloc, name)?)),
-        (Value::Expression { number, .. }, Reference::Index(n)) => {
-            if n == number {
+        (Value::Variable(name), _) => Ok(Some(name_text(alloc, name)?)),
+        (Value::Expression(index), Reference::WrittenIndex(n)) => {
+            if n == index {
                 return Ok(None);
             }
             let mut digits = Buffer::new();
-            Ok(Some(String::from_str(alloc, digits.format(number))?))
+            Ok(Some(String::from_str(alloc, digits.format(index))?))
         }
         _ => Ok(None),
     }
@@ -79,8 +97,8 @@ fn push_edit(
     span: &Range<usize>,
     text: Option<String>,
 ) -> Result<(), AllocError>
-    ensures { OnOk result ((places : List Place) → AreAt places (map seen_edit edits.old.items)
-        → AreAt (places ++ pair span.now ∷ []) (map seen_edit edits.new.items)) }
+    ensures { OnOk result (map seen_edit edits.new.items ≡ map seen_edit edits.old.items
+        ++ edit_at (Some (pair span.now)) (option_map string_bytes text)) }
 {
     if let Some(text) = text {
         edits.push(Edit {
@@ -99,8 +117,9 @@ fn push_position<'a>(
     values: &Values<'_, 'a>,
     argument: &Argument<'a>,
 ) -> Result<(), AllocError>
-    ensures { OnOk result ((places : List Place) → AreAt places (map seen_edit edits.old.items)
-        → AreAt (places ++ pair argument.now.position_span ∷ []) (map seen_edit edits.new.items)) }
+    ensures { OnOk result (Knows values.now → map seen_edit edits.new.items
+        ≡ map seen_edit edits.old.items
+        ++ position_edits (seen_slots values.now) (seen_argument argument.now)) }
 {
     let text = match position_value(values, &argument.position) {
         Some(value) => new_text(alloc, position_reference(&argument.position), value)?,
@@ -111,42 +130,42 @@ fn push_position<'a>(
 }
 
 /// Returns the text of a width or a precision that is an argument, or `None` if it stays as it is.
-/// `opening` is what the text begins with: the dot of a precision. Returns `Err` if an allocation
+/// `dot` is what the text begins with: the dot of a precision. Returns `Err` if an allocation
 /// fails.
-fn count_text<'a>(
+fn count_text(
     alloc: Global,
-    values: &Values<'_, 'a>,
-    count: &Count<'a>,
-    opening: &str,
-) -> Result<Option<String>, AllocError> {
-    let Amount::ValueOf(Some(value)) = amount_of(values, count) else {
+    reference: Reference<'_>,
+    amount: Amount<'_>,
+    dot: &str,
+) -> Result<Option<String>, AllocError>
+    ensures { IfOk result (λ o. option_map string_bytes o ≡ new_count_text dot.now
+        (seen_reference reference.entry) (seen_amount amount.entry)) }
+{
+    let Amount::ValueOf(Some(value)) = amount else {
         return Ok(None);
     };
-    let Some(argument) = new_text(alloc, count_reference(count), value)? else {
-        return Ok(None);
-    };
-    let mut text = String::from_str(alloc, opening)?;
-    text.push_str(&argument)?;
-    text.push('$')?;
-    Ok(Some(text))
+    match new_text(alloc, reference, value)? {
+        Some(text) => Ok(Some(format!(in alloc; "{dot}{text}$")?)),
+        None => Ok(None),
+    }
 }
 
 /// Adds the edit of a width or a precision at a place of the literal, if it does not stay as it is.
-/// `opening` is what its text begins with. Returns `Err` if an allocation fails.
+/// `dot` is what its text begins with. Returns `Err` if an allocation fails.
 fn push_count<'a>(
     alloc: Global,
     edits: &mut Vec<Edit>,
     values: &Values<'_, 'a>,
     count: &Count<'a>,
     span: &Option<Range<usize>>,
-    opening: &str,
+    dot: &str,
 ) -> Result<(), AllocError>
-    ensures { OnOk result ((places : List Place) → AreAt places (map seen_edit edits.old.items)
-        → AreAt (places ++ option_to_list (option_map pair span.now))
-        (map seen_edit edits.new.items)) }
+    ensures { OnOk result (Knows values.now → map seen_edit edits.new.items
+        ≡ map seen_edit edits.old.items ++ count_edits (seen_slots values.now) dot.now
+        (option_map pair span.now) (seen_count count.now)) }
 {
     if let Some(span) = span {
-        let text = count_text(alloc, values, count, opening)?;
+        let text = count_text(alloc, count_reference(count), amount_of(values, count), dot)?;
         push_edit(edits, span, text)?;
     }
     Ok(())
@@ -159,9 +178,9 @@ fn push_piece<'a>(
     values: &Values<'_, 'a>,
     piece: &Piece<'a>,
 ) -> Result<(), AllocError>
-    ensures { OnOk result ((places : List Place) → AreAt places (map seen_edit edits.old.items)
-        → AreAt (places ++ reference_places (seen_piece piece.now))
-        (map seen_edit edits.new.items)) }
+    ensures { OnOk result (Knows values.now → map seen_edit edits.new.items
+        ≡ map seen_edit edits.old.items
+        ++ piece_edits (seen_slots values.now) (seen_piece piece.now)) }
 {
     let Piece::NextArgument(argument) = piece else {
         return Ok(());
@@ -184,8 +203,8 @@ fn push_piece<'a>(
 /// references to arguments that are these, and make the others those to the arguments that stay.
 /// Returns `Err` if an allocation fails.
 pub(crate) fn edits_of(alloc: Global, call: CallMeaning<'_, '_>) -> Result<Vec<Edit>, AllocError>
-    ensures { IfOk result (λ v.
-        AreAtReferences (map seen_piece call.entry.pieces.now) (map seen_edit v.items)) }
+    ensures { IfOk result (λ v. Knows call.entry.values.now → map seen_edit v.items
+        ≡ new_edits (seen_slots call.entry.values.now) (map seen_piece call.entry.pieces.now)) }
 {
     let mut edits = Vec::new(alloc);
     for piece in call.pieces {

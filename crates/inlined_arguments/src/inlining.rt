@@ -1,13 +1,14 @@
 //! Inlining, and the check of its result.
 
-ghost use Rattle.std.specs.Prelude.{◌≡◌, ◌+◌, ◌<◌, ◌≤◌, ◌^◌, ◌++◌, Bool, IfErr, IfOk, IsTrue};
-ghost use Rattle.std.specs.Prelude.{None, OnOk, chars, length, map, string_bytes};
+ghost use Rattle.std.specs.Prelude.{◌≡◌, ◌↔◌, ◌+◌, ◌<◌, ◌≤◌, ◌^◌, ◌++◌, Bool, IfErr, IfOk, IsOk};
+ghost use Rattle.std.specs.Prelude.{IsTrue, None, OnOk, chars, length, map, string_bytes};
 ghost use Rattle.rustc_parse_format.specs.Literal.{newline};
 ghost use Rattle.rustc_parse_format.specs.Views.{seen_piece};
 ghost use Rattle.rustc_parse_format.specs.World.{hashes};
 ghost use Rattle.call_faults.specs.Views.{seen_given};
 ghost use Rattle.inlined_arguments.specs.Conditions.{condition};
-ghost use Rattle.inlined_arguments.specs.Inlining.{IsCleanAs, IsInlined, IsUnchanged, MeansSame};
+ghost use Rattle.inlined_arguments.specs.Inlining.{IsCleanAs, IsInlinable, IsInlined};
+ghost use Rattle.inlined_arguments.specs.Inlining.{IsUnchanged, MeansSame};
 ghost use Rattle.inlined_arguments.specs.Views.{Knows, seen_argument, seen_call, seen_inlined};
 ghost use Rattle.inlined_arguments.specs.Views.{seen_slot, seen_slots};
 ghost use Rattle.inlined_arguments.specs.Values.{slot_argument, slots as slots_of};
@@ -41,7 +42,7 @@ fn put_newline(text: &mut String, appends_newline: bool) -> Result<(), AllocErro
 
 /// Returns whether two styles of literals are the same.
 fn is_same_style(left: Option<usize>, right: Option<usize>) -> bool
-    ensures { IsTrue result → left ≡ right }
+    ensures { IsTrue result ↔ (left ≡ right) }
 {
     match (left, right) {
         (None, None) => true,
@@ -62,10 +63,10 @@ fn means_same_with<'c>(
 ) -> Result<bool, AllocError>
     requires { hashes string.style + length string.text.now + 2 < 2 ^ 64 }
     ensures { IfOk result (λ b. Knows old.entry.values.now
-        → map seen_given arguments.now ≡ map slot_argument (map seen_slot slots.now) → IsTrue b
-        → IsCleanAs string.entry.captures_variables (seen_slots old.entry.values.now)
+        → map seen_given arguments.now ≡ map slot_argument (map seen_slot slots.now) → (IsTrue b
+        ↔ IsCleanAs string.entry.captures_variables (seen_slots old.entry.values.now)
         (map seen_piece old.entry.pieces.now) (map seen_slot slots.now)
-        (chars string.entry.text.now)) }
+        (chars string.entry.text.now))) }
 {
     let Some(pieces) = read(alloc, string, arguments)? else {
         return Ok(false);
@@ -88,9 +89,8 @@ fn keeps_meaning(
 ) -> Result<bool, AllocError>
     ensures { IfOk result (λ b. Knows old.entry.values.now
         → seen_slots old.entry.values.now ≡ slots_of (map seen_argument call.entry.arguments.now)
-        → IsTrue b
-        → MeansSame (seen_call call.entry) (map seen_piece old.entry.pieces.now)
-        (chars literal.now)) }
+        → (IsTrue b ↔ MeansSame (seen_call call.entry) (map seen_piece old.entry.pieces.now)
+        (chars literal.now))) }
 {
     let Some(LiteralText { mut text, style }) = literal_text(alloc, literal)? else {
         return Ok(false);
@@ -167,7 +167,9 @@ pub fn inline_arguments(
     allows_mixed: bool,
 ) -> Result<Result<InlinedCall, Obstacle>, AllocError>
     requires { hashes call.string.style + length call.string.text.now + 2 < 2 ^ 64 }
-    // A call that is inlined has the old meaning. One that is left has a reason that holds.
+    // A call is inlined exactly if it can be, and then it has the old meaning. One that is left has
+    // the first reason that holds.
+    ensures exactly { IfOk result (λ r. IsOk r ↔ IsInlinable allows_mixed (seen_call call.entry)) }
     ensures inlined { IfOk result (λ r. IfOk r (λ x.
         IsInlined allows_mixed (seen_call call.entry) (seen_inlined x))) }
     ensures unchanged { IfOk result (λ r. IfErr r

@@ -17,13 +17,8 @@ use std::alloc::{AllocError, Global};
 pub(crate) enum Value<'a> {
     /// The variable of this name.
     Variable(&'a str),
-    /// An argument that is no variable.
-    Expression {
-        /// Its index among all arguments.
-        index: usize,
-        /// Its index among those that are no variables.
-        number: usize,
-    },
+    /// An argument that is no variable, with its index among those that are none.
+    Expression(usize),
 }
 
 /// An argument as a place for a value.
@@ -35,13 +30,13 @@ pub(crate) struct Slot<'a> {
     pub value: Value<'a>,
 }
 
-/// Returns the value of an argument with these indices.
-fn slot_value<'a>(argument: &Argument<'a>, index: usize, number: usize) -> Value<'a>
+/// Returns the value of an argument with this index among those that are no variables.
+fn slot_value<'a>(argument: &Argument<'a>, index: usize) -> Value<'a>
     ensures { seen_value result ≡ slot_value index (seen_argument argument.now) }
 {
     match variable(argument) {
         Some(name) => Value::Variable(name),
-        None => Value::Expression { index, number },
+        None => Value::Expression(index),
     }
 }
 
@@ -49,7 +44,7 @@ fn slot_value<'a>(argument: &Argument<'a>, index: usize, number: usize) -> Value
 fn is_expression(value: Value<'_>) -> bool
     ensures { result ≡ is_expression (seen_value value.entry) }
 {
-    matches!(value, Value::Expression { .. })
+    matches!(value, Value::Expression(_))
 }
 
 /// Returns the slots of arguments. Returns `Err` if an allocation fails.
@@ -60,15 +55,15 @@ pub(crate) fn slots<'a>(
     ensures { IfOk result (λ v. map seen_slot v.items ≡ slots (map seen_argument arguments.now)) }
 {
     let mut slots = Vec::new(alloc);
-    let mut number = 0;
-    for (index, argument) in arguments.iter().enumerate() {
-        let value = slot_value(argument, index, number);
+    let mut kept_count = 0;
+    for argument in arguments {
+        let value = slot_value(argument, kept_count);
         slots.push(Slot {
             name: argument.name,
             value,
         })?;
         if is_expression(value) {
-            number += 1;
+            kept_count += 1;
         }
     }
     Ok(slots)

@@ -1,11 +1,12 @@
 //! Changed files, which are written in place while their old text stands beside them.
 
 use crate::open_files::{is_same, real_path};
+use file_paths::fs;
 use std::fs::{File, Metadata, OpenOptions};
+use std::io;
 use std::io::ErrorKind;
 use std::os::unix::fs::{FileExt, OpenOptionsExt};
 use std::random::RandomSource;
-use std::{fs, io};
 
 /// The words between the name of a file and the number that make the name of the file beside it.
 const MARK: &str = ".formatlint-";
@@ -84,7 +85,7 @@ pub fn name_before(name: &str) -> Option<&str> {
 }
 
 /// Returns a path beside another one, which cannot be foretold. A name that would be too long has
-/// only the start of the other name.
+/// only the start of the other name, and so has one of a name that is not UTF-8.
 fn path_beside(rt: &HostRuntime, path: &str) -> io::Result<String> {
     let mut bytes = [0u8; 8];
     rt.fill_bytes(&mut bytes)?;
@@ -94,7 +95,8 @@ fn path_beside(rt: &HostRuntime, path: &str) -> io::Result<String> {
     }
     let (folder, name) = path.rsplit_once('/').unwrap_or((".", path));
     let most = MOST_NAME.saturating_sub(MARK.len() + DIGITS + 1);
-    let front = name.get(..name.floor_char_boundary(most)).unwrap_or("");
+    let (plain, _) = name.split_once('\0').unwrap_or((name, ""));
+    let front = plain.get(..plain.floor_char_boundary(most)).unwrap_or("");
     Ok(format!(in rt.alloc(); "{folder}/.{front}{MARK}{number:016x}")?)
 }
 
@@ -120,7 +122,7 @@ impl OldText {
         let path = path_beside(rt, path)?;
         let mut options = OpenOptions::new();
         options.write(true).create_new(true).mode(0o600);
-        let old_text = match options.open(rt, path.as_str()) {
+        let old_text = match fs::open_with(rt, &options, path.as_str()) {
             Ok(file) => OldText { file, path },
             Err(error) if is_refused(&error) => return Ok(None),
             Err(error) => return Err(error),
@@ -165,7 +167,7 @@ fn open_again(rt: &HostRuntime, path: &str, source: &File) -> Result<File, StepF
     }
     let mut options = OpenOptions::new();
     options.read(true).write(true);
-    let file = step_result("opening it", options.open(rt, path))?;
+    let file = step_result("opening it", fs::open_with(rt, &options, path))?;
     if !is_same(&data, &step_result("opening it", file.metadata())?) {
         return Err(failure_of("another program moved it", None));
     }

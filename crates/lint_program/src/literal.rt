@@ -6,6 +6,7 @@ use crate::recorder::Recorder;
 use crate::terminal::shown_bytes;
 use clap::ArgMatches;
 use drawn_lines::WIDTH;
+use file_paths::{fs, shown_path};
 use format_lint::run::run;
 use lint_words::{put_failure, put_not_literal, system_words};
 use listing_json::{Listing, list};
@@ -13,7 +14,6 @@ use literal_faults::{file_fault, snippet_of};
 use piece_listing::run::{read_input, run as list_as_text, write_whole};
 use piece_listing::verdict::RunFault;
 use std::alloc::{AllocError, Global};
-use std::fs;
 use std::io::{ErrorKind, IsTerminal, Read, Write};
 
 /// Reads a stream to its end.
@@ -229,6 +229,11 @@ pub fn literal_status(rt: &HostRuntime, matches: &ArgMatches<'_>) -> Option<u8> 
         Some(path) => path,
         None => matches.get_str("stdin-path").unwrap_or("<stdin>"),
     };
+    let shown_path = match shown_path(rt.alloc(), path) {
+        Ok(shown_path) => shown_path,
+        Err(error) => return Some(print_failure(rt, path, &[], &Failure::from(error))),
+    };
+    let path = shown_path.as_str();
     let bytes = match input(rt, matches, file) {
         Ok(bytes) => bytes,
         Err(failure) => {

@@ -1,9 +1,10 @@
 //! Open files: where they are, and whether two of them are one.
 
+use file_paths::fs;
 use std::fs::{File, Metadata};
+use std::io;
 use std::os::fd::AsRawFd;
 use std::os::unix::fs::MetadataExt;
-use std::{fs, io};
 
 /// Returns whether two files are one, by the numbers that the system gives it.
 pub fn is_same(one: &Metadata, other: &Metadata) -> bool {
@@ -11,13 +12,11 @@ pub fn is_same(one: &Metadata, other: &Metadata) -> bool {
 }
 
 /// Returns the path from the root on, without links, that the system says an open file has now,
-/// whatever was renamed since it was opened. Returns `Err` if the system does not say it, or if it
-/// is not UTF-8.
+/// whatever was renamed since it was opened. Returns `Err` if the system does not say it.
 pub fn path_of(rt: &HostRuntime, file: &File) -> io::Result<String> {
     let number = file.as_raw_fd();
     let link = format!(in rt.alloc(); "/proc/self/fd/{number}")?;
-    let path = fs::read_link(rt, link.as_str())?;
-    Ok(String::from_str(rt.alloc(), path.as_str())?)
+    fs::read_link(rt, link.as_str())
 }
 
 /// Returns the same as `path_of`, or the path to which another one leads now if the system does
@@ -26,6 +25,5 @@ pub fn real_path(rt: &HostRuntime, file: &File, path: &str) -> io::Result<String
     if let Ok(path) = path_of(rt, file) {
         return Ok(path);
     }
-    let path = fs::canonicalize(rt, path)?;
-    Ok(String::from_str(rt.alloc(), path.as_str())?)
+    fs::canonicalize(rt, path)
 }

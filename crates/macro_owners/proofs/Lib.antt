@@ -1,2 +1,3 @@
 pub mod Collecting
 pub mod Finding
+pub mod Quieting

@@ -2,7 +2,7 @@
 -- imports from a crate that owns them, the crates of which it uses all macros, and the names whose
 -- calls in it may be of another macro.
 use Prim.Native.Char.{code}
-use Rattle.std.specs.Prelude.{◌≡◌, ℕ, Bool, not, ◌&&◌, ◌||◌, ◌++◌, List, [], ◌∷◌, Option, Some}
+use Rattle.std.specs.Prelude.{◌≡◌, ℕ, Bool, not, ◌&&◌, ◌||◌, ◌++◌, List, [], ◌∷◌, Some}
 use Rattle.std.specs.Prelude.{codes, if◌then◌else◌, is_some, map, nat_lt}
 use Rattle.std.specs.BTreeSet.{BTreeSet}
 use Rattle.std.specs.Str.{bytes_eq}

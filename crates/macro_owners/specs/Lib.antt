@@ -3,3 +3,4 @@ pub mod Facts
 pub mod Files
 pub mod Names
 pub mod Owners
+pub mod Quiet

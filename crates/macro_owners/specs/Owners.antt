@@ -1,5 +1,6 @@
 -- Whose macro a name is in a file, by the facts of all files of its package.
-use Rattle.std.specs.Prelude.{ℕ, Bool, true, not, ◌&&◌, ◌||◌, ◌++◌, List, [], codes, if◌then◌else◌}
+use Rattle.std.specs.Prelude.{ℕ, Bool, true, not, ◌&&◌, ◌||◌, ◌++◌, List, [], ◌∷◌, codes}
+use Rattle.std.specs.Prelude.{if◌then◌else◌}
 use Rattle.std.specs.List.{list_any}
 use Rattle.macro_owners.specs.declared.facts.Facts.{Facts}
 use Rattle.macro_owners.specs.Facts.{names_in}
@@ -80,9 +81,14 @@ abbrev pub is_certain : Names → Names → List ℕ → Bool
 is_certain p f n = if not (has kept_names n) then true else
     (if is_prelude n then is_std p f n else is_of_crate p f n)
 
+-- A file gives the name of a crate of macros for logs to something else, or has a glob of defmt.
+-- The macros of such a crate have format strings and arguments of their own.
+abbrev pub gives_log_crate : Names → Bool
+gives_log_crate f = has_any f.given (codes "defmt" ∷ log_crates)
+
 -- A call of this name in the file f of the package p is likely one of the macro that tables mean:
--- no file of the package gives the name in another way than its owner, and the file has no glob of
--- defmt, whose macros for logs have format strings of their own.
+-- no file of the package gives the name in another way than its owner, and for a macro of logs the
+-- file gives no crate of such macros.
 abbrev pub is_likely : Names → Names → List ℕ → Bool
 is_likely p f n = not (has kept_names n && (has p.given n || (has f.given n
-    || (is_log_name n && has f.given (codes "defmt")))))
+    || (is_log_name n && gives_log_crate f))))

@@ -5,9 +5,9 @@ ghost use Rattle.std.specs.List.{filter};
 ghost use Rattle.format_calls.specs.Rows.{entry};
 ghost use Rattle.macro_owners.specs.Facts.{names_in};
 ghost use Rattle.macro_owners.specs.Names.{has};
-ghost use Rattle.macro_owners.specs.Owners.{gives, has_glob, hides_globs, is_certain, is_free};
-ghost use Rattle.macro_owners.specs.Owners.{is_likely, is_of_crate, is_std, is_used, lacks_owners};
-ghost use Rattle.macro_owners.specs.Owners.{may_miss_std, names_of};
+ghost use Rattle.macro_owners.specs.Owners.{gives, gives_log_crate, has_glob, hides_globs};
+ghost use Rattle.macro_owners.specs.Owners.{is_certain, is_free, is_likely, is_of_crate, is_std};
+ghost use Rattle.macro_owners.specs.Owners.{is_used, lacks_owners, may_miss_std, names_of};
 
 use crate::facts::Facts;
 use crate::names::{is_error_name, is_log_name, is_prelude, is_std_alone, kept_name};
@@ -135,6 +135,15 @@ pub fn is_certain(package_facts: &Facts, file_facts: &Facts, name: &[u8]) -> boo
     }
 }
 
+/// Returns whether a file gives the name of a crate of macros for logs to something else, or has a
+/// glob of `defmt`.
+fn gives_log_crate(file_facts: &Facts) -> bool
+    ensures { result ≡ gives_log_crate (names_of file_facts.now) }
+{
+    let given = &file_facts.given;
+    has(given, b"defmt") || has(given, b"log") || has(given, b"tracing") || has(given, b"slog")
+}
+
 /// Returns whether no other macro of this name is in sight in a file of a package. It may be
 /// another one all the same, where [`is_certain`] is `false`.
 fn is_likely(package_facts: &Facts, file_facts: &Facts, name: &[u8]) -> bool
@@ -143,8 +152,8 @@ fn is_likely(package_facts: &Facts, file_facts: &Facts, name: &[u8]) -> bool
     let Some(name) = kept_name(name) else {
         return true;
     };
-    let is_of_defmt = is_log_name(name) && has(&file_facts.given, b"defmt");
-    !(has(&package_facts.given, name) || has(&file_facts.given, name) || is_of_defmt)
+    let is_of_other = is_log_name(name) && gives_log_crate(file_facts);
+    !(has(&package_facts.given, name) || has(&file_facts.given, name) || is_of_other)
 }
 
 /// Returns whether a call of the macro of a row is one of it: for certain, or likely.

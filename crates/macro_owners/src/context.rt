@@ -1,13 +1,14 @@
 //! What stands before a token, as far as it matters to names of macros.
 
-ghost use Rattle.std.specs.Prelude.{◌≡◌, option_map};
+ghost use Rattle.std.specs.Prelude.{◌≡◌, IsTrue, option_map};
 ghost use Rattle.rust_trees.specs.Leaves.{leaf};
 ghost use Rattle.macro_owners.specs.Contexts.{after, depth_after, first, goes_on, import_after};
 ghost use Rattle.macro_owners.specs.Contexts.{defines, ends_item, exports, opens_macro};
 ghost use Rattle.macro_owners.specs.Contexts.{path_after, seen, starts_import, uses_macros};
+ghost use Rattle.macro_owners.specs.Quiet.{is_plain, is_quiet};
 
 use crate::names::is_hygienic;
-use crate::words::{is_mark, is_named, word_of};
+use crate::words::{is_mark, is_named, is_notable, word_of};
 use format_calls::is_word;
 use rust_trees::{Side, Token};
 
@@ -55,6 +56,7 @@ pub fn first_context<'a>() -> Context<'a>
 }
 
 /// Returns whether a token goes on with the path before it.
+#[inline(always)]
 fn goes_on(context: Context<'_>, token: Token<'_>) -> bool
     ensures { result ≡ goes_on (seen context.entry) (leaf token.entry) }
 {
@@ -65,6 +67,7 @@ fn goes_on(context: Context<'_>, token: Token<'_>) -> bool
 }
 
 /// Returns the first word of the path that ends with a token, or `None` if none does.
+#[inline(always)]
 fn path_after<'a>(context: Context<'a>, token: Token<'a>) -> Option<Token<'a>>
     ensures { option_map leaf result ≡ path_after (seen context.entry) (leaf token.entry) }
 {
@@ -95,6 +98,7 @@ fn import_after<'a>(context: Context<'a>, token: Token<'a>) -> Option<Token<'a>>
 
 /// Returns whether a delimiter after this opens the arguments of a macro that may define others, or
 /// the arms of a definition.
+#[inline(always)]
 fn opens_macro(context: Context<'_>) -> bool
     ensures { result ≡ opens_macro (seen context.entry) }
 {
@@ -103,6 +107,7 @@ fn opens_macro(context: Context<'_>) -> bool
 }
 
 /// Returns the number of delimiters that are open after a token.
+#[inline(always)]
 fn depth_after(context: Context<'_>, token: Token<'_>) -> usize
     ensures { result ≡ depth_after (seen context.entry) (leaf token.entry) }
 {
@@ -167,6 +172,66 @@ impl<'a> Context<'a> {
             defines: defines(self),
             depth: depth_after(self, token),
         }
+    }
+
+    /// Returns whether a plain token after this only spoils names.
+    pub fn is_quiet(&self) -> bool
+        ensures { result ≡ is_quiet (seen self.now) }
+    {
+        !(is_named(self.previous, "as")
+            || is_notable(self.last)
+            || self.starts_import
+            || self.uses_macros
+            || self.defines)
+    }
+
+    /// Counts the delimiters that are open after a token, which opens no macro.
+    #[inline(always)]
+    fn count_delimiter(&mut self, token: Token<'a>)
+        requires { IsTrue (is_quiet (seen self.old)) }
+        ensures { seen self.new ≡ record (seen self.old) {
+          depth = depth_after (seen self.old) (leaf token.entry);
+        } }
+    {
+        if self.depth == 0 {
+            return;
+        }
+        self.depth = depth_after(*self, token);
+    }
+
+    /// Goes on with the path before a token, ends it, or begins another one with the token.
+    #[inline(always)]
+    fn follow_path(&mut self, token: Token<'a>)
+        ensures { seen self.new ≡ record (seen self.old) {
+          path_root = path_after (seen self.old) (leaf token.entry);
+          goes_on = goes_on (seen self.old) (leaf token.entry);
+        } }
+    {
+        if is_word(&token) {
+            self.goes_on = goes_on(*self, token);
+            if !self.goes_on {
+                self.path_root = Some(token);
+            }
+        } else {
+            self.goes_on = false;
+            if !is_mark(Some(token), b':') {
+                self.path_root = None;
+            }
+        }
+    }
+
+    /// Passes a plain token where it only spoils names.
+    #[inline(always)]
+    pub fn pass_quietly(&mut self, token: Token<'a>)
+        requires quiet { IsTrue (is_quiet (seen self.old)) }
+        requires plain { IsTrue (is_plain (seen self.old) (leaf token)) }
+        ensures after { seen self.new ≡ after (seen self.old) (leaf token.entry) }
+        ensures quiet { IsTrue (is_quiet (seen self.new)) }
+    {
+        self.count_delimiter(token);
+        self.follow_path(token);
+        self.previous = self.last;
+        self.last = Some(token);
     }
 
     /// Passes a token.

@@ -1,8 +1,8 @@
 //! The facts of files about names of macros.
 
-ghost use Rattle.std.specs.Prelude.{◌≡◌, IfOk, OnOk};
+ghost use Rattle.std.specs.Prelude.{◌≡◌, IfOk, IsTrue, OnOk};
 ghost use Rattle.rust_trees.specs.Leaves.{leaf};
-ghost use Rattle.macro_owners.specs.Contexts.{seen};
+ghost use Rattle.macro_owners.specs.Contexts.{after, seen};
 ghost use Rattle.macro_owners.specs.Facts.{Adds, AddsName, AddsToken, AreNone, HasMore};
 ghost use Rattle.macro_owners.specs.Facts.{attribute_mark};
 ghost use Rattle.macro_owners.specs.Facts.{given_by_import, given_by_item, given_name, glob_mark};
@@ -12,12 +12,13 @@ ghost use Rattle.macro_owners.specs.Facts.{defined_name, given_outside, has_owne
 ghost use Rattle.macro_owners.specs.Facts.{is_owned_import, is_renamed, owner_name, spoiled_name};
 ghost use Rattle.macro_owners.specs.Facts.{used_name, uses_crate};
 ghost use Rattle.macro_owners.specs.Names.{kept};
+ghost use Rattle.macro_owners.specs.Quiet.{is_plain, is_quiet};
 
 use crate::context::{Context, defines, first_context};
 use crate::names::{
     is_error_crate, is_harmless, is_log_crate, is_owner, is_std_crate, kept_name, owns,
 };
-use crate::words::{is_mark, is_named, word_of};
+use crate::words::{is_mark, is_named, is_notable, word_of};
 use rust_trees::{Token, Tokens};
 use std::alloc::{AllocError, Global};
 use std::collections::BTreeSet;
@@ -227,6 +228,7 @@ fn used_name<'a>(context: Context<'a>, token: Token<'a>) -> &'a [u8]
 }
 
 /// Returns whether a call of the last word may be of another macro.
+#[inline(always)]
 fn is_other_call(context: Context<'_>) -> bool
     ensures { result ≡ is_other_call (seen context.entry) }
 {
@@ -236,6 +238,7 @@ fn is_other_call(context: Context<'_>) -> bool
 }
 
 /// Returns whether the last word stands by itself, before this token.
+#[inline(always)]
 fn is_bare(context: Context<'_>, token: Token<'_>) -> bool
     ensures { result ≡ is_bare (seen context.entry) (leaf token.entry) }
 {
@@ -245,6 +248,7 @@ fn is_bare(context: Context<'_>, token: Token<'_>) -> bool
 }
 
 /// Returns the name that may be another macro's in this file, or nothing.
+#[inline(always)]
 fn spoiled_name<'a>(context: Context<'a>, token: Token<'a>) -> &'a [u8]
     ensures { result.now ≡ spoiled_name (seen context.entry) (leaf token.entry) }
 {
@@ -282,6 +286,59 @@ fn add_token(facts: &mut Facts, context: Context<'_>, token: Token<'_>) -> Resul
     Ok(())
 }
 
+/// Returns whether a token is not notable, and no name of an import ends there.
+#[inline(always)]
+fn is_plain(context: Context<'_>, token: Token<'_>) -> bool
+    ensures { result ≡ is_plain (seen context.entry) (leaf token.entry) }
+{
+    let may_end_name = is_import(context)
+        && (is_end(token) || is_mark(Some(token), b'*') || is_mark(context.last, b'$'));
+    !(is_notable(Some(token)) || may_end_name)
+}
+
+/// Adds the name that a plain token spoils. Returns `Err` if an allocation fails.
+#[inline(always)]
+fn put_spoiled(
+    names: &mut BTreeSet<&'static [u8]>,
+    context: Context<'_>,
+    token: Token<'_>,
+) -> Result<(), AllocError>
+    requires { IsTrue (is_plain (seen context) (leaf token)) }
+    ensures { OnOk result (HasMore names.old
+        (kept (spoiled_name (seen context.entry) (leaf token.entry))) names.new) }
+{
+    if context.depth == 0 {
+        return Ok(());
+    }
+    put(names, spoiled_name(context, token))
+}
+
+/// Adds the facts of a token and passes it, where `was_quiet` may be true only if a plain token
+/// only spoils names. Returns whether the same is known of the next token, or `Err` if an
+/// allocation fails.
+#[inline(always)]
+fn pass_token<'a>(
+    facts: &mut Facts,
+    context: &mut Context<'a>,
+    token: Token<'a>,
+    was_quiet: bool,
+) -> Result<bool, AllocError>
+    requires { IsTrue was_quiet → IsTrue (is_quiet (seen context.old)) }
+    ensures adds { OnOk result (AddsToken (seen context.old) (leaf token.entry) facts.old
+        facts.new) }
+    ensures passes { OnOk result (seen context.new ≡ after (seen context.old) (leaf token.entry)) }
+    ensures quiet { IfOk result (λ q. IsTrue q → IsTrue (is_quiet (seen context.new))) }
+{
+    if was_quiet && is_plain(*context, token) {
+        put_spoiled(&mut facts.spoiled, *context, token)?;
+        context.pass_quietly(token);
+        return Ok(true);
+    }
+    add_token(facts, *context, token)?;
+    context.pass(token);
+    Ok(context.is_quiet())
+}
+
 impl Facts {
     /// Returns those of no files.
     pub fn new(alloc: Global) -> Facts
@@ -311,9 +368,9 @@ impl Facts {
         let mut facts = self;
         let mut rest = Tokens::new(text);
         let mut context = first_context();
+        let mut is_quiet = true;
         while let Some(token) = rest.next() {
-            add_token(&mut facts, context, token)?;
-            context.pass(token);
+            is_quiet = pass_token(&mut facts, &mut context, token, is_quiet)?;
         }
         Ok(facts)
     }

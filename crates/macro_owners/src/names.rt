@@ -5,6 +5,7 @@ ghost use Rattle.macro_owners.specs.Names.{is_error_crate, is_harmless, is_hygie
 ghost use Rattle.macro_owners.specs.Names.{is_error_name, is_log_name, is_owner, is_prelude};
 ghost use Rattle.macro_owners.specs.Names.{has, is_std_alone, is_std_crate, kept_names, owns};
 ghost use Rattle.macro_owners.specs.Names.{unimported};
+ghost use Rattle.macro_owners.specs.Quiet.{begins_notable, notable_words};
 
 use format_calls::{is_of_crates, is_standard};
 
@@ -98,6 +99,19 @@ const HARMLESS: [&str; 30] = [
 /// Macros that expand their arguments where they stand and define no macro, beside those of tables.
 const HYGIENIC: [&str; 3] = ["vec", "dbg", "matches"];
 
+/// Words from which facts may come.
+const NOTABLE: [&str; 9] = [
+    "use",
+    "as",
+    "mod",
+    "macro",
+    "macro_use",
+    "macro_export",
+    "no_std",
+    "no_core",
+    "no_implicit_prelude",
+];
+
 /// Macros that only the prelude of std has, not that of core.
 const STD_ALONE: [&str; 5] = ["format", "print", "println", "eprint", "eprintln"];
 
@@ -167,6 +181,28 @@ pub fn is_hygienic(word: &[u8]) -> bool
     ensures { result ≡ is_hygienic word.now }
 {
     is_standard(word) || is_of_crates(word) || is_one_of(&HYGIENIC, word)
+}
+
+/// Returns whether a notable word may begin with a byte.
+#[inline(always)]
+fn begins_notable(byte: u8) -> bool
+    ensures { result ≡ begins_notable byte }
+{
+    byte == b'u' || byte == b'a' || byte == b'm' || byte == b'n'
+}
+
+/// Returns whether facts may come from this word.
+#[inline(always)]
+pub fn is_notable_word(word: &[u8]) -> bool
+    ensures { result ≡ has notable_words word.now }
+{
+    if word.is_empty() {
+        return false;
+    }
+    if !begins_notable(word[0]) {
+        return false;
+    }
+    is_one_of(&NOTABLE, word)
 }
 
 /// Returns whether a macro of this name is in the prelude of std, but not in that of core.

@@ -4,7 +4,9 @@ ghost use Rattle.std.specs.Prelude.{◌≡◌, option_map};
 ghost use Rattle.format_calls.specs.Marks.{is_mark_of};
 ghost use Rattle.rust_trees.specs.Leaves.{leaf};
 ghost use Rattle.macro_owners.specs.Contexts.{is_named, word_of};
+ghost use Rattle.macro_owners.specs.Quiet.{is_notable};
 
+use crate::names::is_notable_word;
 use format_calls::{is_mark_of, is_word, word};
 use rust_trees::Token;
 
@@ -32,5 +34,16 @@ pub fn is_mark(token: Option<Token<'_>>, mark: u8) -> bool
     match token {
         Some(token) => is_mark_of(&token, mark),
         None => false,
+    }
+}
+
+/// Returns whether facts may come from a token or from those after it.
+#[inline(always)]
+pub fn is_notable(token: Option<Token<'_>>) -> bool
+    ensures { result ≡ is_notable (option_map leaf token.entry) }
+{
+    match token {
+        Some(token) if is_word(&token) => is_notable_word(word(&token)),
+        _ => is_mark(token, b'!'),
     }
 }

@@ -103,10 +103,15 @@ pub fn package_facts(manifest: &Value, workspace: Option<&Value>) -> Result<Pack
     }
     let rust_version = version_of(manifest, workspace)?;
     let (allows_arguments, allows_positions) = match package_lints(manifest, workspace) {
-        Some(lints) => (
-            is_allowed(lints, "clippy", &["pedantic", "uninlined_format_args"]),
-            is_allowed(lints, "rust", &["named_arguments_used_positionally"]),
-        ),
+        Some(lints) => {
+            let allows_warnings = is_allowed(lints, "rust", &["warnings"]);
+            (
+                allows_warnings
+                    || is_allowed(lints, "clippy", &["pedantic", "uninlined_format_args"]),
+                allows_warnings
+                    || is_allowed(lints, "rust", &["named_arguments_used_positionally"]),
+            )
+        }
         None => (false, false),
     };
     Ok(PackageFacts {

@@ -8,11 +8,12 @@ use crate::dependencies::Dependency;
 use crate::facts::Misfit;
 use crate::targets::target_edition;
 use crate::versions::{Edition, RustVersion, edition_named};
+use file_paths::fs;
 use folders::Folder;
 use reading::Found;
 use rust_trees::Place;
 use std::collections::BTreeMap;
-use std::{fs, io};
+use std::io;
 use toml::Value;
 
 /// What the project says of a file.
@@ -219,10 +220,7 @@ impl Packages {
         let path = String::from_str(rt.alloc(), folder.strip_suffix('/').unwrap_or(folder))?;
         let given = if folder.is_empty() { "." } else { folder };
         self.walked = match fs::canonicalize(rt, given) {
-            Ok(whole_path) => Some(WalkedFolder {
-                path,
-                whole_path: String::from_str(rt.alloc(), whole_path.as_str())?,
-            }),
+            Ok(whole_path) => Some(WalkedFolder { path, whole_path }),
             Err(_) => None,
         };
         Ok(())
@@ -245,11 +243,10 @@ impl Packages {
             let whole_path = whole_path.strip_suffix('/').unwrap_or(whole_path);
             return Ok(format!(in rt.alloc(); "{whole_path}/{rest}")?);
         }
-        let whole_path = match fs::canonicalize(rt, folder) {
-            Ok(path) => String::from_str(rt.alloc(), path.as_str())?,
-            Err(_) => String::from_str(rt.alloc(), "/")?,
-        };
-        Ok(whole_path)
+        match fs::canonicalize(rt, folder) {
+            Ok(whole_path) => Ok(whole_path),
+            Err(_) => Ok(String::from_str(rt.alloc(), "/")?),
+        }
     }
 
     /// Returns what the project says of the file with this path: its edition is that of all files,

@@ -14,15 +14,7 @@ use Rattle.message_faults.specs.declared.checker.Message.{Message}
 use Rattle.message_faults.specs.declared.faults.MessageFault.{MessageFault as DeclaredFault}
 use Rattle.message_faults.specs.declared.faults.MessageFault.TheVariants.{Text as TextIn}
 use Rattle.message_faults.specs.declared.faults.MessageFault.TheVariants.{Specifier as SpecifierIn}
-use Rattle.message_faults.specs.declared.faults.MessageFault.TheVariants.{}
-use Rattle.message_faults.specs.declared.faults.MessageFault.TheVariants.{}
-use Rattle.message_faults.specs.declared.faults.MessageFault.TheVariants.{}
-use Rattle.message_faults.specs.declared.faults.MessageFault.TheVariants.{}
 use Rattle.message_faults.specs.declared.faults.MessageFault.TheVariants.{Positional as PositionalIn}
-use Rattle.message_faults.specs.declared.faults.MessageFault.TheVariants.{}
-use Rattle.message_faults.specs.declared.faults.MessageFault.TheVariants.{}
-use Rattle.message_faults.specs.declared.faults.MessageFault.TheVariants.{}
-use Rattle.message_faults.specs.declared.faults.MessageFault.TheVariants.{}
 use Rattle.message_faults.specs.declared.faults.MessageFault.TheVariants.{MissingParameter as MissingIn}
 use Rattle.message_faults.specs.Messages.{MessageFault, TextFault, Specifier, Positional}
 use Rattle.message_faults.specs.Messages.{MissingParameter, is_self_or}

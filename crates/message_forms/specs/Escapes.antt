@@ -2,6 +2,7 @@
 use Rattle.std.specs.Prelude.{ℕ, ◌+◌, ◌/◌, ◌%◌, Bool, ◌||◌, ◌==◌, nat_lt, List, [], ◌∷◌, ◌++◌}
 use Rattle.std.specs.Prelude.{codes, flat_map, if◌then◌else◌}
 use Rattle.std.specs.Int.{is_in_range}
+use Rattle.file_paths.specs.Paths.{path_bytes}
 use Rattle.shown_text.specs.Shown.{shown}
 use Rattle.shown_text.specs.declared.gate.Kind.TheVariants.{Json}
 
@@ -28,6 +29,6 @@ abbrev pub scheme : List ℕ → List ℕ
 scheme [] = []
 scheme (b ∷ bs) = if b == 47 then codes "file://" else []
 
--- A path as a URI: one from the root with its scheme, another as a relative one.
+-- The path of a text as a URI: one from the root with its scheme, another as a relative one.
 abbrev pub uri : List ℕ → List ℕ
-uri path = scheme path ++ flat_map uri_byte path
+uri text = scheme text ++ flat_map uri_byte (path_bytes text)

@@ -4,6 +4,7 @@
 ghost use Rattle.std.specs.Prelude.{◌≡◌, ◌<◌, ◌++◌, OnOk, decimal, string_bytes};
 ghost use Rattle.message_forms.specs.Escapes.{quoted, stays_in_uri, upper_digit, uri, uri_byte};
 
+use file_paths::path_bytes;
 use itoa::Buffer;
 use shown_text::{Kind, put_shown};
 use std::alloc::AllocError;
@@ -66,7 +67,7 @@ pub fn put_uri(out: &mut String, path: &str) -> Result<(), AllocError>
     if path.starts_with('/') {
         out.push_str("file://")?;
     }
-    for byte in path.as_bytes() {
+    for byte in &path_bytes(*out.allocator(), path)? {
         put_uri_byte(out, *byte)?;
     }
     Ok(())

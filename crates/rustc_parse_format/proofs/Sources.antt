@@ -2,6 +2,7 @@
 pub mod Contents
 pub mod Decided
 pub mod Ends
+pub mod Escapes
 pub mod Gaps
 pub mod Moves
 pub mod Order

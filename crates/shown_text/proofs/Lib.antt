@@ -1,3 +1,4 @@
 pub mod OneLine
 pub mod Plain
+pub mod ReadBack
 pub mod Terminals

@@ -1,5 +1,5 @@
 -- A terminal obeys no character of a text that is shown, and none ends a line.
-use Rattle.std.proofs.Common.{◌≡◌, ℕ, ◌+◌, ◌/◌, ◌%◌, Bool, true, false, List, [], ◌∷◌, ◌++◌, ◌<◌}
+use Rattle.std.proofs.Common.{◌≡◌, ℕ, ◌/◌, ◌%◌, Bool, true, false, List, [], ◌∷◌, ◌++◌, ◌<◌}
 use Rattle.std.proofs.Common.{ap, append_assoc, arith, chars, cond, refl, subst, suc, sym, zero}
 use Rattle.std.proofs.Common.{◌∙◌}
 use Rattle.std.proofs.lemmas.Bool.{and_parts, cond_both, eqb-true, or_parts}
@@ -72,7 +72,7 @@ of_command b c =
     (one_of (b && c == 58) _ _ (all-printable (codes "%3A") refl)
     (one_of (b && c == 44) _ _ (all-printable (codes "%2C") refl) (of_line c)))))
 
-digit-printable : (n : ℕ) → is_printable (digit_char (n % 16)) ≡ true
+pub digit-printable : (n : ℕ) → is_printable (digit_char (n % 16)) ≡ true
 digit-printable n = let l : n % 16 < 16 = omega arith in grind (arith, nat_tests)
 
 of_digit : (n : ℕ) → is_special (digit_char (n % 16)) ≡ false
@@ -138,7 +138,7 @@ either false p q = q
 small : (c : ℕ) → is_printable c ≡ true → c < 128
 small c e = grind (arith, nat_tests)
 
-all-ascii : (bs : List ℕ) → list_all is_printable bs ≡ true → IsAscii bs
+pub all-ascii : (bs : List ℕ) → list_all is_printable bs ≡ true → IsAscii bs
 all-ascii [] e = IsAscii-nil
 all-ascii (c ∷ bs) e =
     let parts = and_parts (is_printable c) (list_all is_printable bs) e in

@@ -8,35 +8,12 @@ use Rattle.std.proofs.lemmas.Str.{encode_ascii, encodes-append}
 use Rattle.std.specs.List.{list_all}
 use Rattle.std.specs.Prelude.{flat_map, ◌<◌}
 use Rattle.rustc_parse_format.proofs.Grammar.Fronts.{list_all-weaker}
-use Rattle.rustc_parse_format.specs.Bytes.{is_no_stop}
 use Rattle.rustc_parse_format.specs.Characters.{Text}
 use Rattle.drawn_lines.specs.Glyphs.{glyph, is_bidi_control, is_printable}
 use Rattle.drawn_lines.proofs.PrintableLemmas.{cut-printable, parts-printable}
 use Rattle.shown_text.specs.Shown.{char_text, is_plain, line_char, shown}
 use Rattle.shown_text.specs.declared.gate.Kind.{Kind}
 use Rattle.shown_text.specs.declared.gate.Kind.TheVariants.{Line, Property, Message, Json}
-use Rattle.shown_text.specs.declared.gate.TheConstants.{LINE, PROPERTY, MESSAGE, JSON}
-
--- the bytes before the first stop of a kind
-pub pass-line : (s : List ℕ) → list_all (is_no_stop LINE) s ≡ true
-    → list_all (is_plain Line) s ≡ true
-pass-line s e = list_all-weaker (is_no_stop LINE) (is_plain Line) s
-    (λ b h. grind (arith, nat_tests)) e
-
-pub pass-property : (s : List ℕ) → list_all (is_no_stop PROPERTY) s ≡ true
-    → list_all (is_plain Property) s ≡ true
-pass-property s e = list_all-weaker (is_no_stop PROPERTY) (is_plain Property) s
-    (λ b h. grind (arith, nat_tests)) e
-
-pub pass-message : (s : List ℕ) → list_all (is_no_stop MESSAGE) s ≡ true
-    → list_all (is_plain Message) s ≡ true
-pass-message s e = list_all-weaker (is_no_stop MESSAGE) (is_plain Message) s
-    (λ b h. grind (arith, nat_tests)) e
-
-pub pass-json : (s : List ℕ) → list_all (is_no_stop JSON) s ≡ true
-    → list_all (is_plain Json) s ≡ true
-pass-json s e = list_all-weaker (is_no_stop JSON) (is_plain Json) s
-    (λ b h. grind (arith, nat_tests)) e
 
 plain-printable : (k : Kind) (b : ℕ) → is_plain k b ≡ true → is_printable b ≡ true
 plain-printable Line b e = e

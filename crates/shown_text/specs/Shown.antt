@@ -2,11 +2,13 @@
 -- of JSON (RFC 8259, section 7). In each of these a terminal obeys no character, and none ends the
 -- line.
 use Rattle.std.specs.Prelude.{◌≡◌, ℕ, ◌/◌, ◌%◌, Bool, true, false, not, ◌&&◌, ◌||◌, ◌==◌, nat_lt}
-use Rattle.std.specs.Prelude.{List, [], ◌∷◌, ◌++◌, chars, codes, flat_map, if◌then◌else◌}
+use Rattle.std.specs.Prelude.{List, [], ◌∷◌, ◌++◌, Some, chars, codes, flat_map}
+use Rattle.std.specs.Prelude.{if◌then◌else◌}
 use Rattle.std.specs.Char.{digit_char}
 use Rattle.std.specs.Str.{NoCharPasses, encode_utf8_all}
 use Rattle.std.specs.Str.Lossy.{utf8_lossy}
 use Rattle.json.specs.Print.{escape_letter}
+use Rattle.json.specs.Text.{content, plain}
 use Rattle.rustc_parse_format.specs.Characters.{Text}
 use Rattle.drawn_lines.specs.Glyphs.{glyph, glyph_bytes, is_obeyed, is_printable}
 use Rattle.shown_text.specs.declared.gate.Kind.{Kind}
@@ -20,6 +22,11 @@ ends_line c = c == 10 || (c == 0x2028 || c == 0x2029)
 -- A terminal obeys no character of a text, and none ends a line.
 abbrev pub IsOneLine : List ℕ → Type 0
 IsOneLine bs = NoCharPasses (λ c. ends_line c || is_obeyed c) bs
+
+-- A reader of JSON, by the grammar of RFC 8259 that the crate `json` states, reads these bytes as
+-- this text: it does so before the closing quote of a string, whatever comes after that.
+abbrev pub IsReadAs : List ℕ → List ℕ → Type 0
+IsReadAs bs text = (rest : List ℕ) → content plain (bs ++ 34 ∷ rest) ≡ Some text
 
 -- The text is one line with its end, of which a terminal obeys no character.
 abbrev pub IsLine : List ℕ → Type 0

@@ -6,8 +6,9 @@ ghost use Rattle.std.specs.Prelude.{chars, encode_utf8_all, length, string_bytes
 ghost use Rattle.std.specs.Char.{digit_char};
 ghost use Rattle.std.specs.List.{list_all};
 ghost use Rattle.json.specs.Print.{escape_letter};
-ghost use Rattle.shown_text.specs.Shown.{IsOneLine, char_text, code_text, command_char, is_plain};
-ghost use Rattle.shown_text.specs.Shown.{json_char, line_char, shown};
+ghost use Rattle.shown_text.specs.Shown.{IsOneLine, IsReadAs, char_text, code_text, command_char};
+ghost use Rattle.shown_text.specs.Shown.{is_plain, json_char, line_char, shown};
+ghost use Rattle.shown_text.specs.declared.gate.Kind.TheVariants.{Json};
 
 use drawn_lines::{glyph, split_first};
 use rustc_parse_format::{Stops, front_width};
@@ -181,11 +182,13 @@ fn put_char(out: &mut String, kind: Kind, c: char) -> Result<(), AllocError>
 
 /// Appends a text as this kind has it. Returns `Err` if an allocation fails, and a part of the text
 /// may then be appended.
-#[tactic(auto, using(crate::proofs::OneLine::one_line))]
+#[tactic(auto, using(crate::proofs::OneLine::one_line, crate::proofs::ReadBack::read_back))]
 pub fn put_shown(out: &mut String, kind: Kind, text: &str) -> Result<(), AllocError>
     ensures written { OnOk result (string_bytes out.new
         ≡ string_bytes out.old ++ shown kind text.now) }
     ensures one_line { IsOneLine (shown kind text.now) }
+    // A string of JSON is read back as the text.
+    ensures reads_back { kind ≡ Json → IsReadAs (shown kind text.now) text.now }
 {
     let (front, mut rest) = split_plain(kind, text);
     out.push_str(front)?;

@@ -40,13 +40,13 @@ reads-by t a b p q m n gs hs r fs e f g h k =
     (subst (λ (v : List FormatArgument). ReadsLiteral t a p m v r fs) h k)))
 
 -- The reading of a call whose macro the file does not define.
-pub reads-here : (is_new : Bool) (t : Option CallReading) (xs : List Leaf) (c : Call)
+pub reads-here : (is_new appended : Bool) (t : Option CallReading) (xs : List Leaf) (c : Call)
     (bs : List Argument) (o : Result ℕ CallReading) (r : CallReading) (fs : List Finding) → None ≡ t
     → AreArguments xs (c.name + 3) bs c.close → o ≡ index_or is_new xs c.rule bs
-    → ReadsBy is_new xs c bs o r fs → ReadsUnless t is_new xs c r fs
-reads-here is_new t xs c bs o r fs n a e h =
-    subst (λ v. ReadsUnless v is_new xs c r fs) n
-    (bs, a, subst (λ v. ReadsBy is_new xs c bs v r fs) e h)
+    → ReadsBy is_new appended xs c bs o r fs → ReadsUnless t is_new appended xs c r fs
+reads-here is_new appended t xs c bs o r fs n a e h =
+    subst (λ v. ReadsUnless v is_new appended xs c r fs) n
+    (bs, a, subst (λ v. ReadsBy is_new appended xs c bs v r fs) e h)
 
 -- The arguments of a call, by the pair that its last token closes.
 pub arguments-here : (xs : List Leaf) (c : Call) (bs ds : List Argument) (n : ℕ) → ds ≡ bs

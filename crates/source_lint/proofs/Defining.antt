@@ -5,7 +5,7 @@ use Rattle.std.specs.BTreeMap.{is_at}
 use Rattle.std.specs.BTreeSet.{BTreeSet, UpdatesBy}
 use Rattle.std.specs.Cmp.Lexicographic.{nat_list_eq_equiv, slice_cmp}
 use Rattle.std.specs.List.{list_any}
-use Rattle.std.specs.Prelude.{◌&&◌, slice_get}
+use Rattle.std.specs.Prelude.{◌&&◌, is_some, not, slice_get}
 use Rattle.std.specs.Ordering.{is_eq, nat_cmp}
 use Rattle.std.specs.Str.{bytes_eq}
 use denote.Ref.{Bor}
@@ -17,13 +17,14 @@ use Rattle.format_calls.specs.declared.listing.Call.{Call}
 use Rattle.format_calls.specs.declared.table.Rule.{Rule}
 use Rattle.source_report.specs.declared.report.CallReading.{CallReading}
 use Rattle.source_report.specs.declared.report.Finding.{Finding}
-use Rattle.source_lint.specs.Macros.{begins_definition, definition, macro_names, names_after}
-use Rattle.source_lint.specs.Macros.{names_in}
+use Rattle.source_lint.specs.Macros.{Own, begins_definition, definition, macro_names, names_after}
+use Rattle.source_lint.specs.Macros.{names_in, newline_by}
 use Rattle.format_calls.specs.Marks.{is_word, word}
 use Rattle.call_forms.specs.Paths.{is_foreign}
 use Rattle.source_lint.specs.CallLists.{Gives}
 use Rattle.source_lint.specs.Readings.{Reads, ReadsUnless, Scope, is_log, name_of_leaf}
-use Rattle.source_lint.specs.Readings.{offset_of_leaf, skipped_reading, skipped_if}
+use Rattle.source_lint.specs.Readings.{is_own, name_at, newline_of, newline_or, offset_of_leaf}
+use Rattle.source_lint.specs.Readings.{skipped_if, skipped_reading}
 use Rattle.source_lint.specs.Files.{AreLeaves}
 use Rattle.source_lint.specs.Reports.{ReadsCalls}
 use Rattle.source_lint.proofs.Reporting.{same-leaves}
@@ -109,41 +110,49 @@ pub defines-all : (start u : Remainder) (found : List (List ℕ)) (w m : Option 
 defines-all start u found w m h l =
     let t = h [] l in (t.0, t.1, λ n. sym (t.2 n ∙ or-none (has found n)))
 
-pub skipped-same : (s t : Scope) (r : Rule) (o : Option Leaf) → s.text ≡ t.text
+pub skipped-same : (s t : Scope) (r : Rule) (o : Option Leaf) → s.text ≡ t.text → s.own ≡ t.own
     → ((n : List ℕ) → has s.defined n ≡ has t.defined n) → skipped_reading s r o
     ≡ skipped_reading t r o
-skipped-same s t r o w e =
-    ap (λ b. skipped_if b (is_log r (name_of_leaf o) && is_foreign s.text (offset_of_leaf o)))
-    (e (name_of_leaf o))
-    ∙ ap (λ v. skipped_if (has t.defined (name_of_leaf o))
-    (is_log r (name_of_leaf o) && is_foreign v (offset_of_leaf o))) w
+skipped-same s t r o w k e =
+    let n = name_of_leaf o in
+    ap (λ b. skipped_if (b && not (is_own s n))
+    (is_log r n && is_foreign s.text (offset_of_leaf o))) (e n)
+    ∙ (ap (λ v. skipped_if (has t.defined n && not (is_some (newline_by v n)))
+    (is_log r n && is_foreign s.text (offset_of_leaf o))) k
+    ∙ ap (λ v. skipped_if (has t.defined n && not (is_own t n))
+    (is_log r n && is_foreign v (offset_of_leaf o))) w)
+
+newline-same : (s t : Scope) (w : List ℕ) → s.own ≡ t.own → newline_of s w ≡ newline_of t w
+newline-same s t w k = ap (λ v. newline_or (newline_by v w) w) k
 
 -- the calls of a file are read in the same way by names that are the same
-all-same : (s t : Scope) (is_new : Bool) (xs : List Leaf) → s.text ≡ t.text
+all-same : (s t : Scope) (is_new : Bool) (xs : List Leaf) → s.text ≡ t.text → s.own ≡ t.own
     → ((n : List ℕ) → has s.defined n ≡ has t.defined n) → (cs : List Call)
     (rs : List CallReading) (fs : List Finding) → Gives (Reads s is_new xs) cs rs fs
     → Gives (Reads t is_new xs) cs rs fs
-all-same s t is_new xs w e [] rs fs h = h
-all-same s t is_new xs w e (c ∷ cs) rs fs h = (
+all-same s t is_new xs w k e [] rs fs h = h
+all-same s t is_new xs w k e (c ∷ cs) rs fs h = (
   h.0,
   h.1,
   h.2,
   h.3,
   h.4,
   h.5,
-  subst (λ o. ReadsUnless o is_new xs c h.0 h.2) (skipped-same s t c.rule (slice_get xs c.name) w e)
-      h.6,
-  all-same s t is_new xs w e cs h.1 h.3 h.7,
+  subst (λ o. ReadsUnless o is_new (newline_of t (name_at xs c.name)) xs c h.0 h.2)
+      (skipped-same s t c.rule (slice_get xs c.name) w k e)
+      (subst (λ b. ReadsUnless (skipped_reading s c.rule (slice_get xs c.name)) is_new b xs c h.0
+      h.2) (newline-same s t (name_at xs c.name) k) h.6),
+  all-same s t is_new xs w k e cs h.1 h.3 h.7,
 )
 
 calls-same : (entries : List Entry) (s t : Scope) (is_new : Bool) (xs : List Leaf)
-    (rs : List CallReading) (fs : List Finding) → s.text ≡ t.text
+    (rs : List CallReading) (fs : List Finding) → s.text ≡ t.text → s.own ≡ t.own
     → ((n : List ℕ) → has s.defined n ≡ has t.defined n)
     → ReadsCalls entries s is_new xs rs fs → ReadsCalls entries t is_new xs rs fs
-calls-same entries s t is_new xs rs fs w e h = record {
+calls-same entries s t is_new xs rs fs w k e h = record {
   calls = h.calls;
   are_calls = h.are_calls;
-  gives = all-same s t is_new xs w e h.calls rs fs h.gives;
+  gives = all-same s t is_new xs w k e h.calls rs fs h.gives;
 }
 
 -- The names that a file defines are those of its tokens.
@@ -156,11 +165,12 @@ pub names-there : (bs : List ℕ) (ds : List (List ℕ)) (ls : List Leaf) → Na
 names-there bs ds ls d l n =
     d.2 n ∙ ap (λ v. has (macro_names v) n) (same-leaves bs d.0 ls d.1 l)
 
-pub calls-of-file : (entries : List Entry) (bs : List ℕ) (ds : List (List ℕ)) (is_new : Bool)
-    (ls : List Leaf) (rs : List CallReading) (fs : List Finding) → NamesOf bs ds → AreLeaves bs ls
-    → ReadsCalls entries (record { text = bs; defined = ds }) is_new ls rs fs
-    → ReadsCalls entries (record { text = bs; defined = macro_names ls }) is_new ls rs fs
-calls-of-file entries bs ds is_new ls rs fs d l h =
-    calls-same entries (record { text = bs; defined = ds })
-    (record { text = bs; defined = macro_names ls }) is_new ls rs fs refl
+pub calls-of-file : (entries : List Entry) (bs : List ℕ) (ms : List Own) (ds : List (List ℕ))
+    (is_new : Bool) (ls : List Leaf) (rs : List CallReading) (fs : List Finding) → NamesOf bs ds
+    → AreLeaves bs ls
+    → ReadsCalls entries (record { text = bs; own = ms; defined = ds }) is_new ls rs fs
+    → ReadsCalls entries (record { text = bs; own = ms; defined = macro_names ls }) is_new ls rs fs
+calls-of-file entries bs ms ds is_new ls rs fs d l h =
+    calls-same entries (record { text = bs; own = ms; defined = ds })
+    (record { text = bs; own = ms; defined = macro_names ls }) is_new ls rs fs refl refl
     (names-there bs ds ls d l) h

@@ -6,6 +6,7 @@ pub mod Joining
 pub mod Merging
 pub mod MovedGivens
 pub mod MovedReadings
+pub mod Owning
 pub mod Reporting
 pub mod Telling
 pub mod Texts

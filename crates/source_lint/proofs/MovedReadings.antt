@@ -18,7 +18,6 @@ use Rattle.format_calls.specs.declared.table.Rule.TheVariants.{Index, IndexByEdi
 use Rattle.format_calls.specs.declared.table.Rule.TheVariants.{Templates}
 use Rattle.source_report.specs.declared.report.CallReading.{CallReading}
 use Rattle.source_report.specs.declared.report.Finding.{Finding}
-use Rattle.asm_lint.specs.Literals.{appends_newline}
 use Rattle.source_lint.specs.FormWords.{TellsForms}
 use Rattle.call_forms.specs.Expressions.{joined_operand}
 use Rattle.call_forms.specs.Forms.{form_here}
@@ -27,7 +26,7 @@ use Rattle.source_lint.specs.Readings.{captures_variables}
 use Rattle.source_lint.specs.Readings.{ends_early}
 use Rattle.source_lint.specs.Readings.{has_expressions, index_if, index_or, is_empty}
 use Rattle.source_lint.specs.Readings.{lack_expression, name_at}
-use Rattle.source_lint.specs.Readings.{Scope, name_of_leaf, skipped_reading}
+use Rattle.source_lint.specs.Readings.{Scope, name_of_leaf, newline_of, skipped_reading}
 use Rattle.source_lint.proofs.Calling.{reads-by}
 use Rattle.call_forms.proofs.Embedding.{Embeds}
 use Rattle.source_lint.proofs.Merging.{Moves}
@@ -43,11 +42,11 @@ pub name-same : (xs ys : List Leaf) (g i : ℕ) → Embeds xs ys g → i < lengt
     → name_at ys (g + i) ≡ name_at xs i
 name-same xs ys g i e h = ap (λ o. name_of_leaf o) (e.same i h)
 
-at-same : (is_new : Bool) (xs ys : List Leaf) (g : ℕ) (c : Call) (bs : List Argument) (n : ℕ)
-    (r : CallReading) (fs : List Finding) → Embeds xs ys g → IsPair xs (c.name + 2) c.close
-    → AreArguments xs (c.name + 3) bs c.close → ReadsAt is_new xs c bs n r fs
-    → ReadsAt is_new ys (moved_call g c) (map (shifted g) bs) n r fs
-at-same is_new xs ys g c bs n r fs e p k h =
+at-same : (is_new appended : Bool) (xs ys : List Leaf) (g : ℕ) (c : Call) (bs : List Argument)
+    (n : ℕ) (r : CallReading) (fs : List Finding) → Embeds xs ys g → IsPair xs (c.name + 2) c.close
+    → AreArguments xs (c.name + 3) bs c.close → ReadsAt is_new appended xs c bs n r fs
+    → ReadsAt is_new appended ys (moved_call g c) (map (shifted g) bs) n r fs
+at-same is_new appended xs ys g c bs n r fs e p k h =
     let w = (pair-within xs (c.name + 2) c.close p).1 in
     let q = p.ends in
     let all = arguments-lie xs (c.name + 3) c.close bs k in
@@ -68,33 +67,34 @@ at-same is_new xs ys g c bs n r fs e p k h =
           (g + c.close)) n
           (up-to-at (ends_early c.rule) xs ys g (c.name + 2) c.close (h.string.start + 1) h.end
           h.trees e p (omega (arith, s)) h.are_up_to);
-      reads = reads-by _ _ _ _ _ _ _ _ _ r fs (ap appends_newline (sym name))
+      reads = reads-by _ _ _ _ _ _ _ _ _ r fs refl
           (ap (captures_variables is_new c.rule) (sym name))
           (ap not (sym (counted-at xs ys g (c.name + 2) c.close (h.string.start + 1) h.end h.trees e
           p h.are_up_to.within h.are_up_to.are_trees)))
           (sym (others-same xs ys g (c.name + 3) c.close h.end (n + 1) bs e w all)) h.reads;
     }
 
-one-same : (rule : Rule) (is_new : Bool) (xs ys : List Leaf) (g : ℕ) (c : Call)
+one-same : (rule : Rule) (is_new appended : Bool) (xs ys : List Leaf) (g : ℕ) (c : Call)
     (bs : List Argument) (n : ℕ) (r : CallReading) (fs : List Finding) → Embeds xs ys g
     → IsPair xs (c.name + 2) c.close → AreArguments xs (c.name + 3) bs c.close
-    → ReadsOne rule is_new xs c bs n r fs
-    → ReadsOne rule is_new ys (moved_call g c) (map (shifted g) bs) n r fs
-one-same (Index m) is_new xs ys g c bs n r fs e p k h = at-same is_new xs ys g c bs n r fs e p k h
-one-same (IndexByEdition m) is_new xs ys g c bs n r fs e p k h =
-    at-same is_new xs ys g c bs n r fs e p k h
-one-same FirstLiteral is_new xs ys g c bs n r fs e p k h =
-    at-same is_new xs ys g c bs n r fs e p k h
-one-same Templates is_new xs ys g c bs n r fs e p k h = asm-same xs ys g c bs r fs e p k h
+    → ReadsOne rule is_new appended xs c bs n r fs
+    → ReadsOne rule is_new appended ys (moved_call g c) (map (shifted g) bs) n r fs
+one-same (Index m) is_new appended xs ys g c bs n r fs e p k h =
+    at-same is_new appended xs ys g c bs n r fs e p k h
+one-same (IndexByEdition m) is_new appended xs ys g c bs n r fs e p k h =
+    at-same is_new appended xs ys g c bs n r fs e p k h
+one-same FirstLiteral is_new appended xs ys g c bs n r fs e p k h =
+    at-same is_new appended xs ys g c bs n r fs e p k h
+one-same Templates is_new appended xs ys g c bs n r fs e p k h = asm-same xs ys g c bs r fs e p k h
 
-by-same : (is_new : Bool) (xs ys : List Leaf) (g : ℕ) (c : Call) (bs : List Argument)
+by-same : (is_new appended : Bool) (xs ys : List Leaf) (g : ℕ) (c : Call) (bs : List Argument)
     (o : Result ℕ CallReading) (r : CallReading) (fs : List Finding) → Embeds xs ys g
     → IsPair xs (c.name + 2) c.close → AreArguments xs (c.name + 3) bs c.close
-    → ReadsBy is_new xs c bs o r fs
-    → ReadsBy is_new ys (moved_call g c) (map (shifted g) bs) o r fs
-by-same is_new xs ys g c bs (Ok n) r fs e p k h =
-    one-same c.rule is_new xs ys g c bs n r fs e p k h
-by-same is_new xs ys g c bs (Err q) r fs e p k h =
+    → ReadsBy is_new appended xs c bs o r fs
+    → ReadsBy is_new appended ys (moved_call g c) (map (shifted g) bs) o r fs
+by-same is_new appended xs ys g c bs (Ok n) r fs e p k h =
+    one-same c.rule is_new appended xs ys g c bs n r fs e p k h
+by-same is_new appended xs ys g c bs (Err q) r fs e p k h =
     let w = (pair-within xs (c.name + 2) c.close p).1 in
     let s = p.ends in (
       h.0,
@@ -129,20 +129,22 @@ index-same xs ys g from to r bs is_new e w l =
     (has_expressions r && list_any (λ p. is_some (joined_operand p)) (map (tokens_of xs) bs)) o)
     (string-same xs ys g from to r bs is_new e w l))
 
-unless-same : (o : Option CallReading) (is_new : Bool) (xs ys : List Leaf) (g : ℕ) (c : Call)
-    (r : CallReading) (fs : List Finding) → Embeds xs ys g → IsPair xs (c.name + 2) c.close
-    → ReadsUnless o is_new xs c r fs → ReadsUnless o is_new ys (moved_call g c) r fs
-unless-same (Some q) is_new xs ys g c r fs e p h = h
-unless-same None is_new xs ys g c r fs e p h =
+unless-same : (o : Option CallReading) (is_new appended : Bool) (xs ys : List Leaf) (g : ℕ)
+    (c : Call) (r : CallReading) (fs : List Finding) → Embeds xs ys g
+    → IsPair xs (c.name + 2) c.close
+    → ReadsUnless o is_new appended xs c r fs
+    → ReadsUnless o is_new appended ys (moved_call g c) r fs
+unless-same (Some q) is_new appended xs ys g c r fs e p h = h
+unless-same None is_new appended xs ys g c r fs e p h =
     let w = (pair-within xs (c.name + 2) c.close p).1 in
     let n : g + (c.name + 3) ≡ g + c.name + 3 = omega arith in (
       map (shifted g) h.0,
       subst (λ v. AreArguments ys v (map (shifted g) h.0) (g + c.close)) n
           (arguments-at xs ys g (c.name + 2) c.close (c.name + 3) h.0 e p (omega arith) h.1),
-      subst (λ v. ReadsBy is_new ys (moved_call g c) (map (shifted g) h.0) v r fs)
+      subst (λ v. ReadsBy is_new appended ys (moved_call g c) (map (shifted g) h.0) v r fs)
           (sym (index-same xs ys g (c.name + 3) c.close c.rule h.0 is_new e w
           (arguments-lie xs (c.name + 3) c.close h.0 h.1)))
-          (by-same is_new xs ys g c h.0 (index_or is_new xs c.rule h.0) r fs e p h.1 h.2),
+          (by-same is_new appended xs ys g c h.0 (index_or is_new xs c.rule h.0) r fs e p h.1 h.2),
     )
 
 -- The same is read, and the same is found.
@@ -152,9 +154,11 @@ reads-same : (s : Scope) (is_new : Bool) (xs ys : List Leaf) (g : ℕ) (c : Call
 reads-same s is_new xs ys g c r fs e p h =
     let w = (pair-within xs (c.name + 2) c.close p).1 in
     let q = p.ends in
-    subst (λ o. ReadsUnless (skipped_reading s c.rule o) is_new ys (moved_call g c) r fs)
+    subst (λ o. ReadsUnless (skipped_reading s c.rule o) is_new (newline_of s (name_of_leaf o)) ys
+    (moved_call g c) r fs)
     (sym (e.same c.name (omega (arith, w, q))))
-    (unless-same (skipped_reading s c.rule (slice_get xs c.name)) is_new xs ys g c r fs e p h)
+    (unless-same (skipped_reading s c.rule (slice_get xs c.name)) is_new
+    (newline_of s (name_at xs c.name)) xs ys g c r fs e p h)
 
 pub reads-move : (s : Scope) (is_new : Bool) → Moves (Reads s is_new)
 reads-move s is_new = record {

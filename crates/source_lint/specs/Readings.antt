@@ -44,7 +44,7 @@ use Rattle.call_forms.specs.Expressions.{has_variable, joined_operand}
 use Rattle.call_forms.specs.Forms.{form_here}
 use Rattle.source_lint.specs.Givens.{given_argument}
 use Rattle.asm_lint.specs.Literals.{appends_newline, without_crs}
-use Rattle.source_lint.specs.Macros.{names_in}
+use Rattle.source_lint.specs.Macros.{Own, names_in, newline_by, own}
 use Rattle.call_forms.specs.Operators.{lacks_operand}
 use Rattle.call_forms.specs.Paths.{is_foreign}
 
@@ -120,10 +120,10 @@ arguments_before end (a ∷ bs) = if nat_lt a.start end
     then record { start = a.start; end = min a.end end; is_named = a.is_named }
     ∷ arguments_before end bs else []
 
--- The same where the format string begins the argument n of these, and the others after it are
--- formatted, up to where they end.
-pub record ReadsAt (is_new : Bool) (xs : List Leaf) (c : Call) (args : List Argument) (n : ℕ)
-    (r : CallReading) (fs : List Finding) : Type 0 where
+-- The same where the format string begins the argument n of these, with a newline appended or not,
+-- and the others after it are formatted, up to where they end.
+pub record ReadsAt (is_new appended : Bool) (xs : List Leaf) (c : Call) (args : List Argument)
+    (n : ℕ) (r : CallReading) (fs : List Finding) : Type 0 where
   pub string : Argument
   pub is_string : slice_get args n ≡ Some string
   pub literal : Leaf
@@ -131,27 +131,28 @@ pub record ReadsAt (is_new : Bool) (xs : List Leaf) (c : Call) (args : List Argu
   pub trees : List ℕ
   pub end : ℕ
   pub are_up_to : AreUpTo (ends_early c.rule) xs (string.start + 1) trees end c.close
-  pub reads : ReadsLiteral (without_crs (chars literal.text)) (appends_newline (name_at xs c.name))
+  pub reads : ReadsLiteral (without_crs (chars literal.text)) appended
       (captures_variables is_new c.rule (name_at xs c.name))
       (not (list_any (is_uncounted xs) trees))
       (map (given_argument xs) (arguments_before end (drop (n + 1) args))) r fs
 
 -- The same where the argument n is the format string by this rule, or where it is the first
 -- template.
-abbrev pub ReadsOne : Rule → Bool → List Leaf → Call → List Argument → ℕ → CallReading
+abbrev pub ReadsOne : Rule → Bool → Bool → List Leaf → Call → List Argument → ℕ → CallReading
     → List Finding → Type 0
-ReadsOne (Index m) is_new xs c args n r fs = ReadsAt is_new xs c args n r fs
-ReadsOne (IndexByEdition m) is_new xs c args n r fs = ReadsAt is_new xs c args n r fs
-ReadsOne FirstLiteral is_new xs c args n r fs = ReadsAt is_new xs c args n r fs
-ReadsOne Templates is_new xs c args n r fs =
+ReadsOne (Index m) is_new appended xs c args n r fs = ReadsAt is_new appended xs c args n r fs
+ReadsOne (IndexByEdition m) is_new appended xs c args n r fs =
+    ReadsAt is_new appended xs c args n r fs
+ReadsOne FirstLiteral is_new appended xs c args n r fs = ReadsAt is_new appended xs c args n r fs
+ReadsOne Templates is_new appended xs c args n r fs =
     ReadsTemplates xs c args (template_count xs args) r fs
 
 -- The same where the argument n is the format string, or where this is the reading, since none is:
 -- then the finding is what is wrong with the arguments, if that is known.
-abbrev pub ReadsBy : Bool → List Leaf → Call → List Argument → Result ℕ CallReading → CallReading
-    → List Finding → Type 0
-ReadsBy is_new xs c args (Ok n) r fs = ReadsOne c.rule is_new xs c args n r fs
-ReadsBy is_new xs c args (Err q) r fs = (r ≡ q) × TellsForms
+abbrev pub ReadsBy : Bool → Bool → List Leaf → Call → List Argument → Result ℕ CallReading
+    → CallReading → List Finding → Type 0
+ReadsBy is_new appended xs c args (Ok n) r fs = ReadsOne c.rule is_new appended xs c args n r fs
+ReadsBy is_new appended xs c args (Err q) r fs = (r ≡ q) × TellsForms
     (form_here is_new (name_at xs c.name) c.rule c.close args (map (tokens_of xs) args)) fs
 
 -- No token stands where the argument should.
@@ -196,15 +197,20 @@ index_or is_new xs r args = index_if
     (has_expressions r && list_any (λ p. is_some (joined_operand p)) (map (tokens_of xs) args))
     (format_string xs r args is_new)
 
--- The parts of a file that say which macro a name is: its text, in bytes, and the names of the
--- macros that it defines.
+-- The parts of a file that say which macro a name is: its text, in bytes, the names of the macros
+-- that it defines, and those of its macros of which the table says how their calls are read.
 pub record Scope : Type 0 where
   pub text : List ℕ
+  pub own : List Own
   pub defined : List (List ℕ)
 
 -- Those of a file as a contract sees them.
 abbrev pub scope : File → Scope
-scope f = record { text = f.text.now; defined = names_in f.macros.now }
+scope f = record {
+  text = f.text.now;
+  own = map own f.own_macros.now;
+  defined = names_in f.macros.now;
+}
 
 -- The offset of the name of a call in its file.
 abbrev pub offset_of_leaf : Option Leaf → ℕ
@@ -223,23 +229,38 @@ skipped_if true b = Some RedefinedMacro
 skipped_if false true = Some ForeignMacro
 skipped_if false false = None
 
+-- The table says how calls of the macro of this name are read, which the file defines.
+abbrev pub is_own : Scope → List ℕ → Bool
+is_own s w = is_some (newline_by s.own w)
+
 -- The reading of a call with this rule and this name, if its macro is another one than that of the
--- table: the file defines one of this name, or the name is one of log, tracing or slog, with a path
--- of another crate in front of it.
+-- table: the file defines one of this name, and the table does not say how its calls are read, or
+-- the name is one of log, tracing or slog, with a path of another crate in front of it.
 abbrev pub skipped_reading : Scope → Rule → Option Leaf → Option CallReading
-skipped_reading s r o = skipped_if (list_any (bytes_eq (name_of_leaf o)) s.defined)
+skipped_reading s r o = skipped_if
+    (list_any (bytes_eq (name_of_leaf o)) s.defined && not (is_own s (name_of_leaf o)))
     (is_log r (name_of_leaf o) && is_foreign s.text (offset_of_leaf o))
 
+abbrev pub newline_or : Option Bool → List ℕ → Bool
+newline_or (Some b) w = b
+newline_or None w = appends_newline w
+
+-- The macro of this name appends a newline to its format string: one of the file as its row says,
+-- and another one by its name.
+abbrev pub newline_of : Scope → List ℕ → Bool
+newline_of s w = newline_or (newline_by s.own w) w
+
 -- The same, unless this is the reading, since the macro is another one.
-abbrev pub ReadsUnless : Option CallReading → Bool → List Leaf → Call → CallReading → List Finding
-    → Type 0
-ReadsUnless (Some q) is_new xs c r fs = (r ≡ q) × (fs ≡ [])
-ReadsUnless None is_new xs c r fs = (args : List Argument)
+abbrev pub ReadsUnless : Option CallReading → Bool → Bool → List Leaf → Call → CallReading
+    → List Finding → Type 0
+ReadsUnless (Some q) is_new appended xs c r fs = (r ≡ q) × (fs ≡ [])
+ReadsUnless None is_new appended xs c r fs = (args : List Argument)
     × AreArguments xs (c.name + 3) args c.close
-    × ReadsBy is_new xs c args (index_or is_new xs c.rule args) r fs
+    × ReadsBy is_new appended xs c args (index_or is_new xs c.rule args) r fs
 
 -- This is the reading of a call, and these are the findings in it, in a file whose edition is from
 -- 2021 on or not.
 abbrev pub Reads : Scope → Bool → List Leaf → Call → CallReading → List Finding → Type 0
 Reads s is_new xs c r fs =
-    ReadsUnless (skipped_reading s c.rule (slice_get xs c.name)) is_new xs c r fs
+    ReadsUnless (skipped_reading s c.rule (slice_get xs c.name)) is_new
+    (newline_of s (name_at xs c.name)) xs c r fs

@@ -9,7 +9,7 @@ use Rattle.source_report.specs.declared.report.Finding.{Finding}
 use Rattle.source_report.specs.declared.report.Report.{Report}
 use Rattle.asm_lint.specs.Attributes.{ReadsItems}
 use Rattle.source_lint.specs.CallLists.{OfCalls}
-use Rattle.source_lint.specs.Macros.{macro_names}
+use Rattle.source_lint.specs.Macros.{Own, macro_names}
 use Rattle.source_lint.specs.Files.{AreLeaves}
 use Rattle.source_lint.specs.Readings.{Reads, Scope}
 
@@ -26,14 +26,20 @@ ReadsAttributes bs xs fs = (HasSubslice bs (codes "on_unimplemented")
     ⊎ ((HasSubslice bs (codes "on_unimplemented") → ⊥) × (fs ≡ []))
 
 -- The report on a file, in bytes: the readings of the calls among its tokens, the findings in them
--- and in attributes, and where the file breaks.
-pub record IsReport (es : List Entry) (is_new : Bool) (bs : List ℕ) (r : Report) : Type 0 where
+-- and in attributes, and where the file breaks. No call of a macro that the file defines is read,
+-- unless it is one of these.
+pub record IsOwnReport (es : List Entry) (ms : List Own) (is_new : Bool) (bs : List ℕ)
+    (r : Report) : Type 0 where
   pub leaves : List Leaf
   pub are_leaves : AreLeaves bs leaves
   pub of_calls : List Finding
   pub of_attributes : List Finding
   pub findings : r.findings.items ≡ of_calls ++ of_attributes
-  pub reads : ReadsCalls es (record { text = bs; defined = macro_names leaves }) is_new leaves
-      r.calls.items of_calls
+  pub reads : ReadsCalls es (record { text = bs; own = ms; defined = macro_names leaves }) is_new
+      leaves r.calls.items of_calls
   pub reads_attributes : ReadsAttributes bs leaves of_attributes
   pub breaks : BreaksAt leaves r.first_break
+
+-- The same where no call of a macro that the file defines is read.
+abbrev pub IsReport : List Entry → Bool → List ℕ → Report → Type 0
+IsReport es is_new bs r = IsOwnReport es [] is_new bs r

@@ -73,6 +73,7 @@ pub fn changed_file_faults(
     let file = File {
         text,
         macros: &names,
+        own_macros: &[],
         is_from_2021: options.is_from_2021,
     };
     let Some(readings) = read_parts(alloc, file, &options.table, gaps)? else {

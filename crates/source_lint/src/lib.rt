@@ -11,6 +11,6 @@ mod macros;
 mod readings;
 
 pub use changed::changed_file_faults;
-pub use lint::{Readings, file_faults, read_calls, report_on};
-pub use macros::{File, macro_names, name_at, other_macro};
+pub use lint::{Readings, file_faults, own_file_faults, read_calls, report_on};
+pub use macros::{File, OwnMacro, macro_names, name_at, other_macro};
 pub use readings::{argument_at, arguments_before, captures_variables, ends_early, index_or};

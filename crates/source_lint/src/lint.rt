@@ -10,13 +10,13 @@ ghost use Rattle.format_calls.specs.declared.listing.Call.{Call as CallValue};
 ghost use Rattle.source_lint.specs.CallLists.{Gives};
 ghost use Rattle.source_lint.specs.Files.{AreLeaves};
 ghost use Rattle.asm_lint.specs.Spans.{HasSpans};
-ghost use Rattle.source_lint.specs.Macros.{macro_names};
+ghost use Rattle.source_lint.specs.Macros.{Own, macro_names, own};
 ghost use Rattle.source_lint.specs.Readings.{Reads, scope};
-ghost use Rattle.source_lint.specs.Reports.{IsReport, ReadsAttributes, ReadsCalls};
+ghost use Rattle.source_lint.specs.Reports.{IsOwnReport, IsReport, ReadsAttributes, ReadsCalls};
 ghost use Rattle.source_report.specs.declared.report.CallReading.{CallReading as ReadingValue};
 ghost use Rattle.source_report.specs.declared.report.Finding.{Finding as FindingValue};
 
-use crate::macros::{File, macro_names};
+use crate::macros::{File, OwnMacro, macro_names};
 use crate::readings::read_call;
 use asm_lint::read_attributes;
 use format_calls::{Call, Part, Table, calls, next_part};
@@ -112,11 +112,11 @@ pub(crate) fn report_with(
     readings: Readings,
     first_break: Option<FileBreak>,
 ) -> Result<Report, AllocError>
-    ensures report { IfOk result (λ r. (es : List Entry) (is_new : Bool) (ls : List Leaf)
-        → AreLeaves text.now ls
-        → ReadsCalls es (record { text = text.now; defined = macro_names ls }) is_new ls
+    ensures report { IfOk result (λ r. (es : List Entry) (ms : List Own) (is_new : Bool)
+        (ls : List Leaf) → AreLeaves text.now ls
+        → ReadsCalls es (record { text = text.now; own = ms; defined = macro_names ls }) is_new ls
         readings.calls.items readings.findings.items → BreaksAt ls first_break
-        → IsReport es is_new text.now r) }
+        → IsOwnReport es ms is_new text.now r) }
     ensures spans { IfOk result (λ r. All (HasSpans text.now) readings.findings.items
         → All (HasSpans text.now) r.findings.items) }
 {
@@ -137,11 +137,11 @@ pub fn report_on(
     readings: Readings,
     balance: Balance,
 ) -> Result<Report, AllocError>
-    ensures report { IfOk result (λ r. (es : List Entry) (is_new : Bool) (ls : List Leaf)
-        → AreLeaves text.now ls
-        → ReadsCalls es (record { text = text.now; defined = macro_names ls }) is_new ls
+    ensures report { IfOk result (λ r. (es : List Entry) (ms : List Own) (is_new : Bool)
+        (ls : List Leaf) → AreLeaves text.now ls
+        → ReadsCalls es (record { text = text.now; own = ms; defined = macro_names ls }) is_new ls
         readings.calls.items readings.findings.items → IsBalanced ls balance
-        → IsReport es is_new text.now r) }
+        → IsOwnReport es ms is_new text.now r) }
     ensures spans { IfOk result (λ r. All (HasSpans text.now) readings.findings.items
         → All (HasSpans text.now) r.findings.items) }
 {
@@ -149,8 +149,33 @@ pub fn report_on(
     report_with(alloc, text, readings, first_break)
 }
 
+/// Reads a source file as [`file_faults`] does, and also its calls of these macros, which it
+/// defines and the table has. Returns `Err` if an allocation fails.
+pub fn own_file_faults(
+    alloc: Global,
+    text: &str,
+    options: &Options<'_>,
+    own_macros: &[OwnMacro<'_>],
+) -> Result<Report, AllocError>
+    ensures report { IfOk result (λ r. IsOwnReport (map entry options.now.table.rows.items)
+        (map own own_macros.now) options.now.is_from_2021 text.now r) }
+    ensures spans { IfOk result (λ r. All (HasSpans text.now) r.findings.items) }
+{
+    let names = macro_names(alloc, text)?;
+    let file = File {
+        text,
+        macros: &names,
+        own_macros,
+        is_from_2021: options.is_from_2021,
+    };
+    let mut balance = Balance::new(alloc);
+    let readings = read_file(alloc, file, &options.table, &mut balance)?;
+    report_on(alloc, text, readings, balance)
+}
+
 /// Reads a source file, and returns the faults of its calls of macros that take a format string or
-/// templates of assembly, and then those of the texts of its attributes.
+/// templates of assembly, and then those of the texts of its attributes. No call of a macro that
+/// the file defines is read.
 /// Lines may end with LF or CRLF, and a byte order mark may stand at the start. Returns `Err` if an
 /// allocation fails.
 pub fn file_faults(alloc: Global, text: &str, options: &Options<'_>) -> Result<Report, AllocError>
@@ -158,13 +183,5 @@ pub fn file_faults(alloc: Global, text: &str, options: &Options<'_>) -> Result<R
         options.now.is_from_2021 text.now r) }
     ensures spans { IfOk result (λ r. All (HasSpans text.now) r.findings.items) }
 {
-    let names = macro_names(alloc, text)?;
-    let file = File {
-        text,
-        macros: &names,
-        is_from_2021: options.is_from_2021,
-    };
-    let mut balance = Balance::new(alloc);
-    let readings = read_file(alloc, file, &options.table, &mut balance)?;
-    report_on(alloc, text, readings, balance)
+    own_file_faults(alloc, text, options, &[])
 }

@@ -4,12 +4,13 @@ ghost use Rattle.std.specs.Prelude.{◌≡◌, ◌||◌, ℕ, List, IfOk, OnOk, 
 ghost use Rattle.std.specs.List.{list_any};
 ghost use Rattle.std.specs.Str.{bytes_eq};
 ghost use Rattle.source_lint.specs.Macros.{begins_definition, definition, is_macro_rules};
-ghost use Rattle.source_lint.specs.Macros.{macro_names, names_in};
-ghost use Rattle.source_lint.specs.Readings.{is_log, name_at, offset_of_leaf, scope};
-ghost use Rattle.source_lint.specs.Readings.{skipped_reading};
+ghost use Rattle.source_lint.specs.Macros.{macro_names, names_in, newline_by, own};
+ghost use Rattle.source_lint.specs.Readings.{is_log, is_own, name_at, newline_of};
+ghost use Rattle.source_lint.specs.Readings.{offset_of_leaf, scope, skipped_reading};
 ghost use Rattle.source_lint.specs.Files.{AreLeaves};
 ghost use Rattle.rust_trees.specs.Leaves.{Leaf, leaf};
 
+use asm_lint::appends_newline;
 use call_forms::is_foreign;
 use format_calls::{Call, Rule, is_mark_of, is_of_crates, is_word, token_at, word};
 use rust_tokens::Kind;
@@ -18,6 +19,15 @@ use source_report::CallReading;
 use std::alloc::{AllocError, Global};
 use std::collections::BTreeSet;
 
+/// A macro that a file defines, and of which the table says how its calls are read.
+#[derive(Clone, Copy)]
+pub struct OwnMacro<'a> {
+    /// Its name.
+    pub name: &'a str,
+    /// Whether it appends a newline to its format string.
+    pub appends_newline: bool,
+}
+
 /// A file, with what its calls are read by.
 #[derive(Clone, Copy)]
 pub struct File<'s, 'a> {
@@ -25,6 +35,8 @@ pub struct File<'s, 'a> {
     pub text: &'a str,
     /// The names of the macros that it defines.
     pub macros: &'s BTreeSet<&'a [u8]>,
+    /// Those of these macros of which the table says how their calls are read.
+    pub own_macros: &'s [OwnMacro<'s>],
     /// Whether its edition is 2021 or a later one.
     pub is_from_2021: bool,
 }
@@ -94,6 +106,36 @@ fn is_defined<'a>(names: &BTreeSet<&'a [u8]>, word: &'a [u8]) -> bool
     names.contains(&word)
 }
 
+/// Returns whether the first of these macros that has a name appends a newline to its format
+/// string, or `None` if none has it.
+fn newline_by(own_macros: &[OwnMacro<'_>], name: &[u8]) -> Option<bool>
+    ensures { result ≡ newline_by (map own own_macros.now) name.now }
+{
+    for own_macro in own_macros {
+        if own_macro.name.as_bytes() == name {
+            return Some(own_macro.appends_newline);
+        }
+    }
+    None
+}
+
+/// Returns whether the table says how calls of the macro of a name are read, which a file defines.
+fn is_own(file: File<'_, '_>, name: &[u8]) -> bool
+    ensures { result ≡ is_own (scope file.entry) name.now }
+{
+    newline_by(file.own_macros, name).is_some()
+}
+
+/// Returns whether a macro of this name appends a newline to its format string in a file.
+pub(crate) fn newline_of(file: File<'_, '_>, name: &[u8]) -> bool
+    ensures { result ≡ newline_of (scope file.entry) name.now }
+{
+    match newline_by(file.own_macros, name) {
+        Some(appended_newline) => appended_newline,
+        None => appends_newline(name),
+    }
+}
+
 /// Returns the name of a call, without `r#`.
 pub fn name_at<'a>(tokens: &[Token<'a>], name: usize) -> &'a [u8]
     ensures { result.now ≡ name_at (map leaf tokens.now) name }
@@ -129,7 +171,7 @@ pub fn other_macro<'a>(file: File<'_, 'a>, tokens: &[Token<'a>], call: &Call) ->
         (slice_get (map leaf tokens.now) call.now.name) }
 {
     let name = name_at(tokens, call.name);
-    if is_defined(file.macros, name) {
+    if is_defined(file.macros, name) && !is_own(file, name) {
         return Some(CallReading::RedefinedMacro);
     }
     if is_log(call.rule, name) && is_foreign(file.text, offset_at(tokens, call.name)) {

@@ -13,20 +13,20 @@ ghost use Rattle.call_faults.specs.Views.{seen_given, start};
 ghost use Rattle.source_lint.specs.Findings.{AreFindings};
 ghost use Rattle.asm_lint.specs.Spans.{HasSpans};
 ghost use Rattle.source_lint.specs.Givens.{given_argument};
-ghost use Rattle.asm_lint.specs.Literals.{appends_newline, without_crs};
+ghost use Rattle.asm_lint.specs.Literals.{without_crs};
 ghost use Rattle.source_lint.specs.Readings.{Reads, ReadsAt, ReadsLiteral, ReadsOne, call_of};
 ghost use Rattle.call_forms.specs.Operators.{lacks_operand};
 ghost use Rattle.source_lint.specs.Readings.{are_expressions, arguments_before, captures_variables};
 ghost use Rattle.source_lint.specs.Readings.{counted_givens, lack_expression};
 ghost use Rattle.source_lint.specs.Readings.{ends_early, has_expressions, index_or, is_empty};
-ghost use Rattle.source_lint.specs.Readings.{name_at, scope};
+ghost use Rattle.source_lint.specs.Readings.{name_at, newline_of, scope};
 ghost use Rattle.source_report.specs.declared.report.Finding.{Finding as FindingValue};
 
 use crate::findings::put_findings;
 use crate::form_words::put_form;
 use crate::givens::givens;
-use crate::macros::{File, name_at, other_macro};
-use asm_lint::{Site, appends_newline, dropped_crs, read_asm, read_literal, reading_of};
+use crate::macros::{File, name_at, newline_of, other_macro};
+use asm_lint::{Site, dropped_crs, read_asm, read_literal, reading_of};
 use call_faults::{FormatArgument, FormatString, call_faults};
 use call_forms::{form_here, have_joined, have_variables, lacks_operand, tokens_of};
 use format_calls::{Argument, Call, Part, Rule, arguments, extent_of, format_string, token_at};
@@ -179,7 +179,7 @@ fn read_with(
     ensures read { IfOk result (λ r. (xs : List FindingValue)
         × (findings.new.items ≡ findings.old.items ++ xs)
         × ReadsLiteral (without_crs (chars literal.entry.text.now))
-        (appends_newline (name_at part.now call.now.name))
+        (newline_of (scope file.entry) (name_at part.now call.now.name))
         (captures_variables file.entry.is_from_2021 call.now.rule (name_at part.now call.now.name))
         is_counted (map (given_argument part.now) arguments.now) r xs) }
     ensures spans { OnOk result (All (HasSpans file.entry.text.now) findings.old.items
@@ -197,7 +197,7 @@ fn read_with(
         close: call.close,
     };
     let name = name_at(tokens, call.name);
-    let appended_newline = appends_newline(name);
+    let appended_newline = newline_of(file, name);
     let captures_variables = captures_variables(call.rule, name, file.is_from_2021);
     read_string(
         alloc,
@@ -226,7 +226,9 @@ fn read_at(
         × IsTrue (is_string_by call.now.rule part.now a) }
     ensures read { IfOk result (λ r. (xs : List FindingValue)
         × (findings.new.items ≡ findings.old.items ++ xs)
-        × ReadsAt file.entry.is_from_2021 part.now call.now arguments.now index r xs) }
+        × ReadsAt file.entry.is_from_2021
+        (newline_of (scope file.entry) (name_at part.now call.now.name)) part.now call.now
+        arguments.now index r xs) }
     ensures spans { OnOk result (All (HasSpans file.entry.text.now) findings.old.items
         → All (HasSpans file.entry.text.now) findings.new.items) }
 {
@@ -280,8 +282,9 @@ fn read_one<'a>(
         × IsTrue (is_string_by call.now.rule part.now a) }
     ensures read { IfOk result (λ r. (xs : List FindingValue)
         × (findings.new.items ≡ findings.old.items ++ xs)
-        × ReadsOne call.now.rule file.entry.is_from_2021 part.now call.now arguments.now index r
-        xs) }
+        × ReadsOne call.now.rule file.entry.is_from_2021
+        (newline_of (scope file.entry) (name_at part.now call.now.name)) part.now call.now
+        arguments.now index r xs) }
     ensures spans { OnOk result (All (HasSpans file.entry.text.now) findings.old.items
         → All (HasSpans file.entry.text.now) findings.new.items) }
 {

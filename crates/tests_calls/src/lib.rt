@@ -1,13 +1,7 @@
-//! Tests of `call_faults`: its words for calls, beside those of rustc 1.95.
+//! Tests of what is said of calls, of templates of assembly and of texts of attributes, and of
+//! calls whose arguments are inlined.
 #![tactic(auto)]
 
-mod missing_rows;
-mod name_rows;
-mod rows;
-#[cfg(test)]
-mod shown;
-mod shown_rows;
-mod string_rows;
-#[cfg(test)]
-mod tests;
-mod unused_rows;
+mod asm;
+mod calls;
+mod inlined;

@@ -1,17 +1,7 @@
-//! Fixes of string literals.
+//! Tests of what the suggestions make of a literal. The expected results were worked out by hand
+//! from the rules of the suggestions.
 
-use format_literal::Literal;
-use rustc_parse_format::ParseMode;
-use std::alloc::{AllocError, Global};
-
-/// A string literal as it stands in a program, with the edits that the faults of its placeholders
-/// suggest. None if the text is no such literal, or if there is nothing to edit.
-pub fn fixed_literal(alloc: Global, source: &str) -> Result<Option<String>, AllocError> {
-    let Some(literal) = Literal::read(alloc, source, ParseMode::Format)? else {
-        return Ok(None);
-    };
-    match literal.fix(alloc)? {
-        Some(fixed) => Ok(Some(fixed.snippet)),
-        None => Ok(None),
-    }
-}
+#[cfg(test)]
+mod fixes;
+#[cfg(test)]
+mod memory;

@@ -1,9 +1,6 @@
-//! Tests of `literal_faults` and `format_literal`. The messages are those of rustc 1.95 where it
-//! has any, and the places are worked out by hand: of an escape its backslash.
+//! Tests of what is made of one literal: its faults, its tokens, and its text after suggestions.
 #![tactic(auto)]
 
 mod fixes;
-#[cfg(test)]
-mod readings;
-#[cfg(test)]
-mod tests;
+mod literals;
+mod tokens;

@@ -206,26 +206,28 @@ fn wants_quotes(path: &str) -> bool {
     false
 }
 
-/// Appends a character of a path in quotes. Returns `Err` if an allocation fails.
-fn put_quoted(out: &mut String, c: char) -> Result<(), AllocError> {
-    if c == '"' || c == '\\' {
-        out.push('\\')?;
-        return out.push(c);
-    }
-    if c >= ' ' && c != '\u{7f}' {
-        return out.push(c);
-    }
-    if c == '\u{7f}' {
-        return out.push_str("\\177");
-    }
-    let code = c as u32;
-    out.push_str("\\0")?;
-    put_number(out, (code / 8) as usize)?;
-    put_number(out, (code % 8) as usize)
+/// Appends a byte as an escape of C. Returns `Err` if an allocation fails.
+fn put_octal(out: &mut String, byte: u32) -> Result<(), AllocError> {
+    out.push('\\')?;
+    put_number(out, (byte / 64) as usize)?;
+    put_number(out, (byte / 8 % 8) as usize)?;
+    put_number(out, (byte % 8) as usize)
 }
 
-/// Appends a path, in quotes with escapes of C if it has a quote, a backslash or a control
-/// character, and with a tab after it if it has a space. Returns `Err` if an allocation fails.
+/// Appends a character of a path in quotes. Returns `Err` if an allocation fails.
+fn put_quoted(out: &mut String, c: char) -> Result<(), AllocError> {
+    if c < ' ' || c == '\u{7f}' {
+        return put_octal(out, c as u32);
+    }
+    if c == '"' || c == '\\' {
+        out.push('\\')?;
+    }
+    out.push(c)
+}
+
+/// Appends the path of a text, in quotes with escapes of C if it is not UTF-8 or has a quote, a
+/// backslash or a control character, and otherwise with a tab after it if it has a space. Returns
+/// `Err` if an allocation fails.
 fn put_path(out: &mut String, path: &str) -> Result<(), AllocError> {
     if !wants_quotes(path) {
         out.push_str(path)?;
@@ -235,8 +237,20 @@ fn put_path(out: &mut String, path: &str) -> Result<(), AllocError> {
         return Ok(());
     }
     out.push('"')?;
+    // After NUL there are two digits in base 16 of a byte that is not UTF-8.
+    let (mut digits, mut byte) = (0u32, 0u32);
     for c in path.chars() {
-        put_quoted(out, c)?;
+        if c == '\0' {
+            digits = 2;
+        } else if digits > 0 {
+            digits -= 1;
+            byte = byte % 16 * 16 + c.to_digit(16).unwrap_or(0);
+            if digits == 0 {
+                put_octal(out, byte)?;
+            }
+        } else {
+            put_quoted(out, c)?;
+        }
     }
     out.push('"')
 }

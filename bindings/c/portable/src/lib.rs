@@ -12,14 +12,12 @@ use dephungo::{ArgumentIs, ArgumentNamed, Count, CountImplied, CountIs, CountIsN
 use dephungo::{CountIsStar, DebugHex, FormatSpec, ParseError, ParseMode, Parser, Piece, Sign};
 use dephungo::Suggestion;
 use records::*;
-use std::ffi::CStr;
 use std::mem::size_of;
 use std::ops::Range;
-use std::os::raw::c_char;
 
 const NOWHERE: Extent = Extent { start: 0, end: 0 };
-/// The version, as `DEPHUNGO_VERSION` of the header, with a zero at its end.
-const VERSION: &str = "0.3.0\0";
+/// The version, as `DEPHUNGO_VERSION_NUMBER` of the header.
+const VERSION: u32 = 3_000;
 /// The most bytes of an input, and the most hashes of a raw literal.
 const LIMIT: u64 = 1_000_000_000_000;
 
@@ -360,31 +358,26 @@ unsafe fn room<'a, T>(start: *mut T, count: usize) -> &'a mut [T] {
     unsafe { std::slice::from_raw_parts_mut(start, count) }
 }
 
-/// Returns the version of this library as a string of C.
+/// Returns the version of this library as one number.
 #[no_mangle]
-pub extern "C" fn dephungo_version() -> *const c_char {
-    VERSION.as_ptr().cast()
+pub extern "C" fn dephungo_version() -> u32 {
+    VERSION
 }
 
-/// Returns how many bytes the record of this name has here, such as `dephungo_step`, or 0 if there is none.
-///
-/// # Safety
-///
-/// The name ends with a zero.
+/// Returns how many bytes a record has here, for one of the header's `RECORD` constants, and 0 for another number.
 #[no_mangle]
-pub unsafe extern "C" fn dephungo_size_of(record: *const c_char) -> usize {
-    // SAFETY: the caller promises it.
-    match unsafe { CStr::from_ptr(record) }.to_bytes() {
-        b"dephungo_range" => size_of::<Extent>(),
-        b"dephungo_peek" => size_of::<Peek>(),
-        b"dephungo_options" => size_of::<Options>(),
-        b"dephungo_spec" => size_of::<Spec>(),
-        b"dephungo_step" => size_of::<Step>(),
-        b"dephungo_fault" => size_of::<Fault>(),
-        b"dephungo_answer" => size_of::<Answer>(),
-        b"dephungo_buffers" => size_of::<Rooms>(),
-        _ => 0,
-    }
+pub extern "C" fn dephungo_size_of(record: u32) -> usize {
+    let sizes = [
+        size_of::<Extent>(),
+        size_of::<Peek>(),
+        size_of::<Options>(),
+        size_of::<Spec>(),
+        size_of::<Step>(),
+        size_of::<Fault>(),
+        size_of::<Answer>(),
+        size_of::<Rooms>(),
+    ];
+    sizes.get(record as usize).copied().unwrap_or(0)
 }
 
 /// The call that `dephungo.h` describes.

@@ -9,6 +9,8 @@ pub mod call_faults;
 #[cfg(feature = "lint")]
 pub mod call_forms;
 #[cfg(feature = "lint")]
+pub mod diagnostic;
+#[cfg(feature = "lint")]
 pub mod drawn_edits;
 #[cfg(feature = "lint")]
 pub mod drawn_faults;
@@ -24,6 +26,8 @@ pub mod fault_rules;
 pub mod file_fixes;
 #[cfg(feature = "lint")]
 pub mod file_inlines;
+#[cfg(feature = "programs")]
+pub mod file_paths;
 #[cfg(feature = "programs")]
 pub mod finding_forms;
 #[cfg(feature = "lint")]
@@ -48,7 +52,7 @@ pub mod lint_words;
 pub mod listing_json;
 #[cfg(feature = "programs")]
 pub mod literal_faults;
-#[cfg(feature = "programs")]
+#[cfg(feature = "lint")]
 pub mod macro_owners;
 #[cfg(feature = "programs")]
 pub mod manifest;
@@ -56,6 +60,8 @@ pub mod manifest;
 pub mod message_faults;
 #[cfg(feature = "programs")]
 pub mod message_forms;
+#[cfg(feature = "programs")]
+pub mod own_macros;
 #[cfg(feature = "lint")]
 pub mod piece_listing;
 #[cfg(feature = "lint")]
@@ -71,6 +77,8 @@ pub mod shown_text;
 pub mod source_lint;
 #[cfg(feature = "lint")]
 pub mod source_report;
+#[cfg(feature = "lint")]
+pub mod text_diagnostics;
 #[cfg(feature = "lint")]
 pub mod text_faults;
 #[cfg(feature = "programs")]

@@ -129,27 +129,29 @@ pub trait IsTerminal {
 
 impl IsTerminal for Stdin {
     fn is_terminal(&self) -> bool {
-        is_terminal("/dev/stdin")
+        is_terminal(0, "/dev/stdin")
     }
 }
 
 impl IsTerminal for Stdout {
     fn is_terminal(&self) -> bool {
-        is_terminal("/dev/stdout")
+        is_terminal(1, "/dev/stdout")
     }
 }
 
 impl IsTerminal for Stderr {
     fn is_terminal(&self) -> bool {
-        is_terminal("/dev/stderr")
+        is_terminal(2, "/dev/stderr")
     }
 }
 
-/// Returns whether a path leads to a terminal, by the numbers that Linux gives its devices.
+/// Returns whether a descriptor is a terminal, by the numbers that Linux gives its devices. The
+/// second path leads to it where there is no `/proc`; `/dev` may lack it where there is one.
 #[cfg(target_os = "linux")]
-fn is_terminal(path: &str) -> bool {
+fn is_terminal(descriptor: u32, path: &str) -> bool {
     use std::os::unix::fs::{FileTypeExt, MetadataExt};
-    let Ok(found) = std::fs::metadata(path) else {
+    let found = std::fs::metadata(format!("/proc/self/fd/{descriptor}"));
+    let Ok(found) = found.or_else(|_| std::fs::metadata(path)) else {
         return false;
     };
     let major = (found.rdev() >> 8) & 0xfff;
@@ -158,12 +160,13 @@ fn is_terminal(path: &str) -> bool {
 
 /// Returns that there is no terminal, where there is no call of the oldest library that knows it.
 #[cfg(not(target_os = "linux"))]
-fn is_terminal(_: &str) -> bool {
+fn is_terminal(_: u32, _: &str) -> bool {
     false
 }
 
 /// The arguments and the environment of a program.
 pub mod env {
+    use super::fs::text_of;
     use super::HostRuntime;
     use std::io::{Error, ErrorKind, Result};
 
@@ -180,24 +183,30 @@ pub mod env {
         }
     }
 
+    /// Returns the arguments, each as the text of a path.
+    pub fn words(_: &HostRuntime) -> Result<Vec<String>> {
+        std::env::args_os().map(text_of).collect()
+    }
+
     /// Returns the value of a variable. Returns `Err` if it is not there or not UTF-8.
     pub fn var(_: &HostRuntime, name: &str) -> std::result::Result<String, std::env::VarError> {
         std::env::var(name)
     }
 }
 
-/// Files and folders, by paths that are UTF-8. On systems that are not like Unix a file has no number
-/// and no mode.
+/// Files and folders, by the texts of their paths. On systems that are not like Unix a path is UTF-8,
+/// and a file has no number and no mode.
 pub mod fs {
     use super::HostRuntime;
+    use std::borrow::Cow;
     use std::ffi::OsString;
-    use std::io::{Error, ErrorKind, Read, Result};
-    use std::marker::PhantomData;
+    use std::io::{Read, Result};
     #[cfg(unix)]
     use std::os::unix::{
         fs::{FileExt, MetadataExt, OpenOptionsExt},
         io::AsRawFd,
     };
+    use std::path::Path;
 
     /// What the system says of a file or a folder.
     pub struct Metadata(std::fs::Metadata);
@@ -273,11 +282,40 @@ pub mod fs {
             self.0.mode(_mode);
             self
         }
+    }
 
-        /// Opens a file.
-        pub fn open(&self, _: &HostRuntime, path: &str) -> Result<File> {
-            Ok(File(self.0.open(path)?))
+    /// Returns the path of a text.
+    #[cfg(unix)]
+    fn path_of(text: &str) -> Cow<'_, Path> {
+        use crate::proved::file_paths::{is_plain, path_bytes};
+        use crate::shim::alloc::answer;
+        use std::os::unix::ffi::OsStringExt;
+        if is_plain(text) {
+            return Cow::Borrowed(Path::new(text));
         }
+        Cow::Owned(OsString::from_vec(answer(path_bytes(text))).into())
+    }
+
+    /// Returns the path of a text.
+    #[cfg(not(unix))]
+    fn path_of(text: &str) -> Cow<'_, Path> {
+        Cow::Borrowed(Path::new(text))
+    }
+
+    /// Returns the text of a path.
+    #[cfg(unix)]
+    pub(super) fn text_of(path: OsString) -> Result<String> {
+        use crate::proved::file_paths::path_text;
+        use std::os::unix::ffi::OsStrExt;
+        Ok(path_text(path.as_bytes())?)
+    }
+
+    /// Returns the text of a path. One that is not UTF-8 is an error.
+    #[cfg(not(unix))]
+    pub(super) fn text_of(path: OsString) -> Result<String> {
+        use std::io::{Error, ErrorKind};
+        let fault = |_| Error::new(ErrorKind::InvalidData, "invalid filename");
+        path.into_string().map_err(fault)
     }
 
     /// An open file.
@@ -350,72 +388,66 @@ pub mod fs {
     }
 
     /// Opens a file, to be read.
-    pub fn open(rt: &HostRuntime, path: &str) -> Result<File> {
-        let mut options = OpenOptions::new();
-        options.read(true).open(rt, path)
+    pub fn open(_: &HostRuntime, path: &str) -> Result<File> {
+        Ok(File(std::fs::File::open(path_of(path))?))
+    }
+
+    /// Opens a file as `options` say.
+    pub fn open_with(_: &HostRuntime, options: &OpenOptions, path: &str) -> Result<File> {
+        Ok(File(options.0.open(path_of(path))?))
     }
 
     /// Returns what a path leads to.
     pub fn metadata(_: &HostRuntime, path: &str) -> Result<Metadata> {
-        Ok(Metadata(std::fs::metadata(path)?))
+        Ok(Metadata(std::fs::metadata(path_of(path))?))
     }
 
     /// Returns what has a path, where a link is one.
     pub fn symlink_metadata(_: &HostRuntime, path: &str) -> Result<Metadata> {
-        Ok(Metadata(std::fs::symlink_metadata(path)?))
+        Ok(Metadata(std::fs::symlink_metadata(path_of(path))?))
     }
 
     /// Removes a file.
     pub fn remove_file(_: &HostRuntime, path: &str) -> Result<()> {
-        std::fs::remove_file(path)
-    }
-
-    /// Returns a name. One that is not UTF-8 is an error, which the standard library has as a kind of
-    /// its own only since Rust 1.87.
-    fn text_of(name: OsString) -> Result<String> {
-        let fault = |_| Error::new(ErrorKind::InvalidData, "invalid filename");
-        name.into_string().map_err(fault)
+        std::fs::remove_file(path_of(path))
     }
 
     /// Returns the path from the root on, without links.
     pub fn canonicalize(_: &HostRuntime, path: &str) -> Result<String> {
-        text_of(std::fs::canonicalize(path)?.into_os_string())
+        text_of(std::fs::canonicalize(path_of(path))?.into_os_string())
     }
 
     /// Returns the path that a link has in it.
     pub fn read_link(_: &HostRuntime, path: &str) -> Result<String> {
-        text_of(std::fs::read_link(path)?.into_os_string())
+        text_of(std::fs::read_link(path_of(path))?.into_os_string())
     }
 
     /// An entry of a folder.
-    pub struct DirEntry<R> {
+    pub struct DirEntry {
         name: String,
         entry: std::fs::DirEntry,
-        host: PhantomData<R>,
     }
 
-    impl<R> DirEntry<R> {
+    impl DirEntry {
         /// Returns its name.
         pub fn file_name(&self) -> &str {
             &self.name
         }
 
         /// Returns what it is, where a link is one.
-        pub fn file_type(&self) -> Result<std::fs::FileType> {
+        pub fn file_type(&self, _: &HostRuntime) -> Result<std::fs::FileType> {
             self.entry.file_type()
         }
     }
 
     /// Returns the entries of a folder, in any order.
-    pub fn read_dir(
-        _: &HostRuntime,
-        path: &str,
-    ) -> Result<impl Iterator<Item = Result<DirEntry<HostRuntime>>>> {
+    pub fn read_dir(_: &HostRuntime, path: &str) -> Result<Vec<DirEntry>> {
         let entry_of = |entry: std::fs::DirEntry| {
             let name = text_of(entry.file_name())?;
-            let host = PhantomData;
-            Ok(DirEntry { name, entry, host })
+            Ok(DirEntry { name, entry })
         };
-        Ok(std::fs::read_dir(path)?.map(move |entry| entry_of(entry?)))
+        std::fs::read_dir(path_of(path))?
+            .map(|entry| entry_of(entry?))
+            .collect()
     }
 }

@@ -5,9 +5,10 @@ use crate::document::{Refusal, read_toml};
 use crate::facts::clippy_version;
 use crate::settings::{Setting, package_setting};
 use crate::versions::RustVersion;
+use file_paths::{fs, is_plain};
 use rust_trees::{Place, Places};
+use std::io;
 use std::io::Read;
-use std::{fs, io};
 use toml::Value;
 
 /// The most bytes of a manifest that are read.
@@ -182,6 +183,7 @@ impl Packages {
     ) -> io::Result<Found> {
         let path = match self.manifests.get(manifest) {
             Some(manifest) => match package_setting(manifest, "workspace") {
+                Setting::Text(path) if !is_plain(path) => return Ok(Found::Absent),
                 Setting::Text(path) => format!(in rt.alloc(); "{folder}/{path}")?,
                 _ => return Ok(nearest),
             },

@@ -56,7 +56,7 @@ byte-escape (x ∷ y ∷ h ∷ d ∷ r) u long e f k l =
     )
 
 -- Two digits, by their values: they are ASCII, and together they mean one character of ASCII.
-digit-ascii : (c : ℕ) → digit_value c < 16 → c < 128
+pub digit-ascii : (c : ℕ) → digit_value c < 16 → c < 128
 digit-ascii c h = grind (arith, nat_tests)
 
 given : (b : Bool) (x v : ℕ) → Some v ≡ (if b then Some x else None) → (b ≡ true) × (x ≡ v)

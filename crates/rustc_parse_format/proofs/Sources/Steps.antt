@@ -183,7 +183,7 @@ end_passed s w rest at h e =
     }
 
 -- The character in front has passed.
-reach_next : (s : List ℕ) (w : World) (rest : Text) (at : ℕ) (h : IsHere s w rest at)
+pub reach_next : (s : List ℕ) (w : World) (rest : Text) (at : ℕ) (h : IsHere s w rest at)
     (k : Starts h.units) (r : Text) →
     h.content ≡ spelling k.unit ++ r → IsContent r k.others
     → IsReached s w (after_first rest) (at + byte_length (spelling k.unit)) k.others

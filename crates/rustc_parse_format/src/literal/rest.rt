@@ -13,7 +13,7 @@ ghost use Rattle.rustc_parse_format.specs.SourceViews.{after_continuations, begi
 ghost use Rattle.rustc_parse_format.specs.SourceViews.{closed_by_quote, spelled_units};
 
 use crate::blocks::plain_front;
-use crate::characters::{Class, after_first, first, split_run};
+use crate::characters::{Class, after_first, begins, first, split_run};
 use std::marker::Model;
 
 /// The rest of a text.
@@ -142,7 +142,7 @@ impl<'a> Rest<'a> {
     pub fn begins_continuation(&self) -> bool
         ensures { result ≡ begins_continuation self.now }
     {
-        self.begins_with('\\') && first(after_first(self.text)) == Some('\n')
+        begins(self.text, '\\') && begins(after_first(self.text), '\n')
     }
 
     /// Skips all string continuations at the start of the rest of a content with its closing quote.

@@ -14,12 +14,13 @@
 //! Among the bytes that stand for themselves, the snippet is not examined. Continuations may come
 //! after them, and from there on the snippet is read unit by unit.
 
-ghost use Rattle.std.specs.Prelude.{◌≡◌, ◌≤◌, ◌<◌, ◌-◌, ◌∷◌, List, ℕ, chars, drop, length, true};
+ghost use Rattle.std.specs.Prelude.{◌≡◌, ◌≢◌, ◌≤◌, ◌<◌, ◌-◌, ◌∷◌, ◌++◌, List, ℕ, IsTrue, chars};
+ghost use Rattle.std.specs.Prelude.{codes, drop, is_some, length, true};
 ghost use Rattle.std.specs.Str.{is_utf8};
 ghost use Rattle.rustc_parse_format.specs.Bytes.{IsLeft};
 ghost use Rattle.rustc_parse_format.specs.Characters.{Text, after_first};
 ghost use Rattle.rustc_parse_format.specs.Literal.{IsContent};
-ghost use Rattle.rustc_parse_format.specs.LiteralUnits.{LiteralUnit};
+ghost use Rattle.rustc_parse_format.specs.LiteralUnits.{LiteralUnit, escaped_character};
 ghost use Rattle.rustc_parse_format.specs.Views.{pair};
 ghost use Rattle.rustc_parse_format.specs.SourceViews.{IsAnchor, IsHere, IsUnescaped, Leads};
 ghost use Rattle.rustc_parse_format.specs.SourceViews.{character_width, closed_by_quote, gap};
@@ -120,6 +121,60 @@ fn character_at(snippet: &str, at: usize) -> CharacterEnd
     }
 }
 
+/// Returns whether the bytes begin with `\x`, and no LF is where a continuation after that escape
+/// would have it.
+#[inline(always)]
+fn begins_byte_escape(bytes: &[u8]) -> bool
+    ensures { IsTrue result → (h : ℕ) × (l : ℕ) × (b : ℕ) × (d : ℕ) × (r : List ℕ)
+        × (bytes.now ≡ codes "\\x" ++ h ∷ l ∷ b ∷ d ∷ r) × (d ≢ 10) }
+{
+    if bytes.len() < 6 || bytes[0] != b'\\' || bytes[1] != b'x' {
+        return false;
+    }
+    bytes[5] != b'\n'
+}
+
+/// Returns whether a backslash and this letter are an escape.
+#[inline(always)]
+fn is_escape_letter(letter: u8) -> bool
+    ensures { result ≡ is_some (escaped_character letter) }
+{
+    matches!(letter, b'n' | b'r' | b't' | b'0' | b'\'' | b'"' | b'\\')
+}
+
+/// Returns whether the bytes begin with an escape of a backslash and a letter, and no LF is where a
+/// continuation after it would have it.
+#[inline(always)]
+fn begins_letter_escape(bytes: &[u8]) -> bool
+    ensures { IsTrue result → (l : ℕ) × (b : ℕ) × (d : ℕ) × (r : List ℕ)
+        × (bytes.now ≡ codes "\\" ++ l ∷ b ∷ d ∷ r) × (d ≢ 10)
+        × IsTrue (is_some (escaped_character l)) }
+{
+    if bytes.len() < 4 || bytes[0] != b'\\' || bytes[3] == b'\n' {
+        return false;
+    }
+    is_escape_letter(bytes[1])
+}
+
+/// Returns the byte offset in a snippet at which the character after the one at `at` starts. Most
+/// escapes are passed by their first letter, for speed.
+#[inline(always)]
+fn next_start(snippet: &str, at: usize) -> usize
+    requires within { at ≤ length snippet.now }
+    requires valid { is_utf8 (drop at snippet.now) ≡ true }
+    ensures { (w : World) (rest : Text) → IsHere snippet.now w rest at
+        → IsHere snippet.now w (after_first rest) result }
+{
+    let bytes = snippet.as_bytes();
+    if begins_byte_escape(&bytes[at..]) {
+        return at + 4;
+    }
+    if begins_letter_escape(&bytes[at..]) {
+        return at + 2;
+    }
+    character_at(snippet, at).next
+}
+
 /// Returns the number of bytes from the byte offset `at` on up to the next backslash, or up to the
 /// closing quote if there is none.
 #[inline(always)]
@@ -198,7 +253,7 @@ impl<'input> Anchor<'input> {
     {
         let mut at = self.after_unescaped(snippet, rest);
         while at.0.len() > rest.len() {
-            let next = character_at(snippet, at.1).next;
+            let next = next_start(snippet, at.1);
             at = Anchor::new(snippet, after_first(at.0), next).after_unescaped(snippet, rest);
         }
         at.1

@@ -21,6 +21,7 @@ pub struct AsmCall<'a> {
 }
 
 /// Adds the faults of templates and operands.
+#[inline(never)]
 fn compare<'a>(
     faults: &mut Vec<AsmFault<'a>>,
     templates: &[Template<'a>],
@@ -46,6 +47,7 @@ fn compare<'a>(
 /// With `options(raw)` the templates have no placeholders, so none is to be given here. For each
 /// template the number of hashes, the length of the text in bytes, and 2 must together fit into a
 /// `usize`.
+#[inline(never)]
 pub fn asm_faults<'a>(
     templates: &[Template<'a>],
     operands: &[Operand<'a>],

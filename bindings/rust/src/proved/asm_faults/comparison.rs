@@ -10,6 +10,7 @@ use crate::shim::alloc::AllocError;
 use crate::shim::prelude::*;
 
 /// Returns the index of the operand that a lookup means, or `None` if it means none.
+#[inline(never)]
 fn meant<'a>(operands: &Operands<'a>, lookup: &Lookup<'a>) -> Option<usize> {
     match *lookup {
         Lookup::Index(_, index) => match operands.slots.get(index) {
@@ -22,6 +23,7 @@ fn meant<'a>(operands: &Operands<'a>, lookup: &Lookup<'a>) -> Option<usize> {
 }
 
 /// Returns of each operand whether a lookup means it.
+#[inline(never)]
 fn marks<'a>(operands: &Operands<'a>, lookups: &[Lookup<'a>]) -> Result<Vec<bool>, AllocError> {
     let mut marks = crate::shim::try_vec![false; operands.slots.len()]?;
     for lookup in lookups {
@@ -54,6 +56,7 @@ fn push_unmarked(
 
 /// Returns the indices of the operands that are not marked, but for those with a register of their
 /// own.
+#[inline(never)]
 fn unmarked_operands(slots: &[Operand<'_>], marks: &[bool]) -> Result<Vec<usize>, AllocError> {
     let mut indices = Vec::new();
     for (index, slot) in slots.iter().enumerate() {
@@ -64,6 +67,7 @@ fn unmarked_operands(slots: &[Operand<'_>], marks: &[bool]) -> Result<Vec<usize>
 
 /// Returns the fault of a lookup, or `None` if there is none, where so many operands have neither a
 /// name nor a register of their own.
+#[inline(never)]
 fn fault_of<'a>(
     operands: &Operands<'a>,
     positional_count: usize,
@@ -89,6 +93,7 @@ fn fault_of<'a>(
 }
 
 /// Adds the faults of lookups.
+#[inline(never)]
 pub(crate) fn look_up<'a>(
     faults: &mut Vec<AsmFault<'a>>,
     operands: &Operands<'a>,
@@ -115,6 +120,7 @@ fn push_unused(
 }
 
 /// Adds the fault of the operands that no lookup means, if there are any.
+#[inline(never)]
 pub(crate) fn check_unused<'a>(
     faults: &mut Vec<AsmFault<'a>>,
     operands: &Operands<'a>,

@@ -41,6 +41,7 @@ fn push_label(
 }
 
 /// Adds the label of an operand that an index does not mean.
+#[inline(never)]
 fn push_kind(
     labels: &mut Vec<AsmLabel>,
     index: usize,
@@ -68,6 +69,7 @@ fn push_kind_at(
 }
 
 /// Adds the labels of the operands of these indices that an index does not mean.
+#[inline(never)]
 fn push_kinds(
     labels: &mut Vec<AsmLabel>,
     operands: &[Operand<'_>],
@@ -106,6 +108,7 @@ fn push_wrong(
 }
 
 /// Adds the label of the second range of an error of a template, if it has one.
+#[inline(never)]
 fn push_second(
     labels: &mut Vec<AsmLabel>,
     template: usize,
@@ -126,6 +129,7 @@ fn error_text(error: &ParseError) -> Result<String, AllocError> {
 }
 
 /// Adds the labels of an error of a template.
+#[inline(never)]
 fn push_error(
     labels: &mut Vec<AsmLabel>,
     template: usize,
@@ -149,6 +153,7 @@ fn push_text(
 }
 
 /// Adds the labels of operands that are not used.
+#[inline(never)]
 fn push_unused(
     labels: &mut Vec<AsmLabel>,
     operands: &[Operand<'_>],
@@ -165,6 +170,7 @@ fn push_unused(
 
 impl<'a> AsmCall<'a> {
     /// Returns the labels of one of the faults, in rustc's order.
+    #[inline(never)]
     pub(crate) fn labels(&self, fault: &AsmFault<'a>) -> Result<Vec<AsmLabel>, AllocError> {
         let mut labels = Vec::new();
         match fault {

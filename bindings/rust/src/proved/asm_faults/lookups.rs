@@ -69,6 +69,7 @@ fn is_next(position: &Position<'_>) -> bool {
 
 /// Returns the lookup of the position of a placeholder at a place, where one without a position
 /// means the operand of the index `next`.
+#[inline(never)]
 fn position_lookup<'a>(
     template: usize,
     next: usize,
@@ -97,6 +98,7 @@ fn is_long(ty: &str) -> bool {
 }
 
 /// Adds the lookup for the modifier of a placeholder.
+#[inline(never)]
 fn push_modifier<'a>(
     lookups: &mut Vec<Lookup<'a>>,
     template: usize,
@@ -112,6 +114,7 @@ fn push_modifier<'a>(
 }
 
 /// Adds the lookups for a placeholder at a place.
+#[inline(never)]
 fn push_argument<'a>(
     walk: &mut Walk<'a>,
     template: usize,
@@ -129,6 +132,7 @@ fn push_argument<'a>(
 
 /// Adds the lookups for a piece, where `places` are those of its placeholder and of the later
 /// ones.
+#[inline(never)]
 fn push_piece<'a>(
     walk: &mut Walk<'a>,
     template: usize,
@@ -153,6 +157,7 @@ fn places_after<'p>(places: &'p [Range<usize>], piece: &Piece<'_>) -> &'p [Range
 
 /// Adds the lookups for the pieces of a template, whose placeholders have these places, in their
 /// order.
+#[inline(never)]
 pub(crate) fn push_pieces<'a>(
     walk: &mut Walk<'a>,
     template: usize,

@@ -44,6 +44,7 @@ fn noun(operands: &[Operand<'_>], count: usize) -> &'static str {
 }
 
 /// Adds so many operands in words.
+#[inline(never)]
 fn put_count(out: &mut String, count: usize, word: &str) -> Result<(), AllocError> {
     if count == 0 {
         out.try_push_str("no ")?;
@@ -65,6 +66,7 @@ fn put_count(out: &mut String, count: usize, word: &str) -> Result<(), AllocErro
 }
 
 /// Adds the note of the operand of an index, if there is one, and an index does not mean it.
+#[inline(never)]
 fn push_kind(
     notes: &mut Vec<AsmNote>,
     index: usize,
@@ -93,6 +95,7 @@ fn count_text(count: usize, word: &str) -> Result<String, AllocError> {
 }
 
 /// Adds the notes of a wrong index, where an index may mean so many operands.
+#[inline(never)]
 fn push_wrong(
     notes: &mut Vec<AsmNote>,
     operands: &[Operand<'_>],
@@ -106,6 +109,7 @@ fn push_wrong(
 }
 
 /// Returns the help of a wrong index, or `None` if there is none.
+#[inline(never)]
 fn wrong_help(operands: &[Operand<'_>], index: usize) -> Result<Option<AsmNote>, AllocError> {
     match operands.get(index) {
         Some(Operand::Register { .. }) => {
@@ -143,6 +147,7 @@ fn put_reference(out: &mut String, index: usize, name: Option<&str>) -> Result<(
 }
 
 /// Adds placeholders of operands.
+#[inline(never)]
 fn put_placeholders(
     out: &mut String,
     operands: &[Operand<'_>],
@@ -169,6 +174,7 @@ fn unused_start(count: usize) -> &'static str {
 }
 
 /// Returns the help of operands that are not used.
+#[inline(never)]
 fn unused_help(operands: &[Operand<'_>], unused_indices: &[usize]) -> Result<AsmNote, AllocError> {
     let mut text = String::made_from(unused_start(unused_indices.len()))?;
     put_placeholders(&mut text, operands, unused_indices)?;
@@ -178,6 +184,7 @@ fn unused_help(operands: &[Operand<'_>], unused_indices: &[usize]) -> Result<Asm
 
 impl<'a> AsmCall<'a> {
     /// Returns the notes of one of the faults, in rustc's order.
+    #[inline(never)]
     pub(crate) fn notes(&self, fault: &AsmFault<'a>) -> Result<Vec<AsmNote>, AllocError> {
         let mut notes = Vec::new();
         match fault {
@@ -201,6 +208,7 @@ impl<'a> AsmCall<'a> {
 
     /// Returns the help of one of the faults, or `None` if it has none. rustc says it after the
     /// notes.
+    #[inline(never)]
     pub(crate) fn help(&self, fault: &AsmFault<'a>) -> Result<Option<AsmNote>, AllocError> {
         match fault {
             AsmFault::WrongIndex { index, .. } => wrong_help(&self.operands, *index),

@@ -73,6 +73,7 @@ fn first_of(indices: &[usize]) -> &[usize] {
 
 /// Returns the indices of the first operands that have a name, and then of the first that have a
 /// register of their own.
+#[inline(never)]
 fn others_of(operands: &Operands<'_>) -> Result<Vec<usize>, AllocError> {
     let mut earlier_operands = Vec::new();
     earlier_operands.try_extend_from_slice(first_of(&operands.named_operands))?;
@@ -111,6 +112,7 @@ fn add_unnamed<'a>(
 
 /// Adds an operand with a name, or its fault if that is the name of an earlier one, and the operand
 /// then counts as unnamed.
+#[inline(never)]
 fn add_named<'a>(
     operands: &mut Operands<'a>,
     faults: &mut Vec<AsmFault<'a>>,
@@ -135,6 +137,7 @@ fn add_named<'a>(
 }
 
 /// Adds an operand with a register of its own, and its fault if it has a name.
+#[inline(never)]
 fn add_register<'a>(
     operands: &mut Operands<'a>,
     faults: &mut Vec<AsmFault<'a>>,
@@ -150,6 +153,7 @@ fn add_register<'a>(
 }
 
 /// Adds an operand, and its fault if it has one.
+#[inline(never)]
 fn add<'a>(
     operands: &mut Operands<'a>,
     faults: &mut Vec<AsmFault<'a>>,
@@ -184,6 +188,7 @@ pub(crate) fn count_unnamed(operands: &[Operand<'_>]) -> usize {
 }
 
 /// Returns operands as placeholders refer to them, and adds the faults of their list.
+#[inline(never)]
 pub(crate) fn operands_of<'a>(
     faults: &mut Vec<AsmFault<'a>>,
     list: &[Operand<'a>],

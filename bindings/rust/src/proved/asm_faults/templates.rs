@@ -31,6 +31,7 @@ fn owned_string(text: Option<&str>) -> Result<Option<String>, AllocError> {
 }
 
 /// Returns the fault of a template that rustc shows, or `None` if it is in the grammar.
+#[inline(never)]
 fn fault_of<'a>(template: Template<'a>) -> Result<Option<Fault<'a>>, AllocError> {
     let snippet = owned_string(template.snippet)?;
     let mut parser = Parser::new(
@@ -44,6 +45,7 @@ fn fault_of<'a>(template: Template<'a>) -> Result<Option<Fault<'a>>, AllocError>
 }
 
 /// Adds the lookups for the placeholders of a template.
+#[inline(never)]
 fn push_template<'a>(
     walk: &mut Walk<'a>,
     index: usize,
@@ -63,6 +65,7 @@ fn push_template<'a>(
 
 /// Adds the lookups for the placeholders of templates, up to the first that is not in the grammar,
 /// and returns its fault, or `None` if there is none.
+#[inline(never)]
 pub(crate) fn push_templates<'a>(
     walk: &mut Walk<'a>,
     templates: &[Template<'a>],

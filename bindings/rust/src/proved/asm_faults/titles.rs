@@ -15,6 +15,7 @@ use crate::shim::prelude::*;
 impl AsmFault<'_> {
     /// Returns the id of the fault in kebab case, as `wrong-operand`: the same for all faults of a
     /// kind. A fault of a template has the id of its [`Fault`]. Does not allocate.
+    #[inline(never)]
     pub fn id(&self) -> &'static str {
         match self {
             AsmFault::PositionalAfter { .. } => "operand-order",
@@ -46,6 +47,7 @@ fn put_named(out: &mut String, text: &str, name: &str) -> Result<(), AllocError>
 }
 
 /// Returns the name of an operand, or `None` if it has none or a register of its own.
+#[inline(never)]
 pub(crate) fn given_name<'a>(operands: &[Operand<'a>], index: usize) -> Option<&'a str> {
     match operands.get(index) {
         Some(Operand::Named(name)) => Some(*name),
@@ -62,6 +64,7 @@ fn name_of<'a>(operands: &[Operand<'a>], index: usize) -> &'a str {
 }
 
 /// Returns the label of an operand that is not used.
+#[inline(never)]
 pub(crate) fn never_used(operands: &[Operand<'_>], index: usize) -> &'static str {
     match operands.get(index) {
         Some(Operand::Named(_)) => "named argument never used",
@@ -94,6 +97,7 @@ fn put_index_title(out: &mut String, index: usize) -> Result<(), AllocError> {
 
 impl<'a> AsmCall<'a> {
     /// Adds the title of one of the faults to the end of `out`, as rustc has it.
+    #[inline(never)]
     pub(crate) fn put_title(
         &self,
         out: &mut String,

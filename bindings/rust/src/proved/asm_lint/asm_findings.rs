@@ -39,6 +39,7 @@ pub struct AsmSite<'s, 'a> {
 }
 
 /// Returns the bytes of the file that a place of a call is.
+#[inline(never)]
 fn asm_range(site: AsmSite<'_, '_>, spot: AsmSpot) -> Range<usize> {
     let (index, place) = match spot {
         AsmSpot::Operand(operand) => (0, Spot::Argument(operand)),
@@ -65,6 +66,7 @@ fn asm_range(site: AsmSite<'_, '_>, spot: AsmSpot) -> Range<usize> {
 }
 
 /// Returns labels with their ranges.
+#[inline(never)]
 fn labels(site: AsmSite<'_, '_>, labels: Vec<AsmLabel>) -> Result<Vec<Label>, AllocError> {
     let mut list = Vec::new();
     for label in labels {
@@ -87,6 +89,7 @@ fn ranges(site: AsmSite<'_, '_>, spot: Option<AsmSpot>) -> Result<Vec<Range<usiz
 }
 
 /// Returns notes with the ranges that they show.
+#[inline(never)]
 fn notes(site: AsmSite<'_, '_>, notes: Vec<AsmNote>) -> Result<Vec<Note>, AllocError> {
     let mut list = Vec::new();
     for note in notes {
@@ -112,6 +115,7 @@ fn help(help: Option<AsmNote>) -> Option<Help> {
 
 /// Returns the range of the primary label that comes first in the file, or an empty one if there is
 /// none.
+#[inline(never)]
 fn primary_span(site: AsmSite<'_, '_>, labels: &[Label]) -> Range<usize> {
     let mut start = 0;
     let mut end = 0;
@@ -127,6 +131,7 @@ fn primary_span(site: AsmSite<'_, '_>, labels: &[Label]) -> Range<usize> {
 }
 
 /// Returns the finding of a fault of a call.
+#[inline(never)]
 fn finding<'c>(
     site: AsmSite<'_, '_>,
     call: &AsmCall<'c>,

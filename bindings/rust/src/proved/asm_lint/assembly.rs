@@ -26,6 +26,7 @@ pub fn reading_of(is_counted: bool) -> CallReading {
 }
 
 /// Returns the operand that an argument is, or `None` if it is none.
+#[inline(never)]
 fn operand_of<'a>(tokens: &[Token<'a>], argument: &Argument, part: AsmPart) -> Option<Operand<'a>> {
     match part {
         AsmPart::Operand => match name_of(tokens, argument) {
@@ -52,6 +53,7 @@ struct Operands<'a> {
 }
 
 /// Adds an argument after the templates.
+#[inline(never)]
 fn add<'a>(
     all_operands: &mut Operands<'a>,
     part: &Part<'a>,
@@ -68,6 +70,7 @@ fn add<'a>(
 }
 
 /// Returns the arguments after the templates.
+#[inline(never)]
 fn operands_of<'a>(part: &Part<'a>, arguments: &[Argument]) -> Result<Operands<'a>, AllocError> {
     let mut operands = Operands {
         list: Vec::new(),
@@ -89,6 +92,7 @@ fn first_token<'a>(tokens: &[Token<'a>], argument: &Argument) -> Token<'a> {
 
 /// Reads the template that an argument is. Returns `None` if its literal stands for no text, and
 /// `Err` if an allocation fails.
+#[inline(never)]
 fn read_template<'a>(
     tokens: &[Token<'a>],
     argument: &Argument,
@@ -107,6 +111,7 @@ fn read_template<'a>(
 
 /// Reads the templates that arguments are. Returns `None` if a literal of them stands for no text,
 /// and `Err` if an allocation fails.
+#[inline(never)]
 fn read_templates<'a>(
     tokens: &[Token<'a>],
     arguments: &[Argument],
@@ -122,6 +127,7 @@ fn read_templates<'a>(
 }
 
 /// Returns templates as placeholders are read in them.
+#[inline(never)]
 fn templates_of<'c>(
     template_list: &'c [ReadTemplate<'_>],
 ) -> Result<Vec<Template<'c>>, AllocError> {
@@ -163,6 +169,7 @@ fn read_unless<'c>(
 
 /// Reads a call whose templates are arguments, with the other arguments after them, and adds its
 /// findings.
+#[inline(never)]
 fn read_literals<'s, 'a>(
     findings: &mut Vec<Finding>,
     text: &'a str,
@@ -193,6 +200,7 @@ fn are_known(is_unknown: bool, is_counted: bool) -> bool {
 }
 
 /// Reads a call of a macro for inline assembly, and adds its findings.
+#[inline(never)]
 pub fn read_asm<'a>(
     findings: &mut Vec<Finding>,
     text: &'a str,

@@ -23,6 +23,7 @@ fn has_word_at(tokens: &[Token<'_>], index: usize, word: &str) -> bool {
 }
 
 /// Returns whether `#[diagnostic::on_unimplemented(` stands from a token on.
+#[inline(never)]
 fn begins_attribute(tokens: &[Token<'_>], index: usize) -> bool {
     is_mark(tokens, index, b'#')
         && is_mark(tokens, index + 1, b'[')
@@ -44,6 +45,7 @@ fn attribute_at(source: &Source<'_>, index: usize) -> Option<usize> {
 
 /// Returns whether two tokens from one on are of the front of an item, of which the second opens a
 /// pair.
+#[inline(never)]
 fn opens_front(tokens: &[Token<'_>], index: usize) -> bool {
     is_mark(tokens, index, b'#') && is_mark(tokens, index + 1, b'[')
         || has_word_at(tokens, index, "pub") && is_mark(tokens, index + 1, b'(')
@@ -59,6 +61,7 @@ fn is_modifier(tokens: &[Token<'_>], index: usize) -> bool {
 
 /// Returns the token after the part of the front of an item that stands at a token, or `None` if no
 /// such part does.
+#[inline(never)]
 fn after_front(source: &Source<'_>, index: usize) -> Option<usize> {
     let tokens = source.tokens();
     if opens_front(tokens, index) {
@@ -82,6 +85,7 @@ struct Front {
 }
 
 /// Returns the front of the item that starts at a token.
+#[inline(never)]
 fn front_at(source: &Source<'_>, start: usize) -> Result<Front, AllocError> {
     let mut starts = Vec::new();
     let mut end = start;
@@ -99,6 +103,7 @@ fn sets_word(tokens: &[Token<'_>], option: &Argument, word: &str) -> bool {
 }
 
 /// Returns the literal that an option sets, or `None` if it sets none.
+#[inline(never)]
 fn literal_of<'a>(tokens: &[Token<'a>], option: &Argument) -> Option<Token<'a>> {
     match token_at(tokens, option.start + 2) {
         Some(token) if option.end == option.start + 3 && is_text_leaf(&token) => Some(token),
@@ -119,6 +124,7 @@ fn is_effective(
 }
 
 /// Adds the literal that an option sets, if it counts.
+#[inline(never)]
 fn put_literal<'a>(
     literals: &mut Vec<Token<'a>>,
     tokens: &[Token<'a>],
@@ -148,6 +154,7 @@ fn read_texts<'a>(
 }
 
 /// Returns the literals of the options that count, in their order.
+#[inline(never)]
 fn literals<'a>(tokens: &[Token<'a>], options: &[Argument]) -> Result<Vec<Token<'a>>, AllocError> {
     let mut literals = Vec::new();
     let mut has_message = false;
@@ -161,6 +168,7 @@ fn literals<'a>(tokens: &[Token<'a>], options: &[Argument]) -> Result<Vec<Token<
 }
 
 /// Reads the attribute of a trait that stands at a token, if one does, and adds its findings.
+#[inline(never)]
 fn read_at<'a>(
     findings: &mut Vec<Finding>,
     text: &'a str,
@@ -203,6 +211,7 @@ fn text_at<'a>(tokens: &[Token<'a>], index: usize) -> &'a str {
 }
 
 /// Reads the attributes of an item with this front, and adds their findings.
+#[inline(never)]
 fn read_item<'a>(
     findings: &mut Vec<Finding>,
     text: &'a str,
@@ -225,6 +234,7 @@ fn read_item<'a>(
 }
 
 /// Reads the attributes of a file, which has these tokens, and adds their findings.
+#[inline(never)]
 pub fn read_attributes<'a>(
     findings: &mut Vec<Finding>,
     text: &'a str,

@@ -11,6 +11,7 @@ use crate::shim::prelude::*;
 use core::ops::Range;
 
 /// Returns labels of a call with their ranges.
+#[inline(never)]
 pub fn labels(site: Site<'_, '_>, labels: Vec<CallLabel>) -> Result<Vec<Label>, AllocError> {
     let mut list = Vec::new();
     for label in labels {
@@ -25,6 +26,7 @@ pub fn labels(site: Site<'_, '_>, labels: Vec<CallLabel>) -> Result<Vec<Label>, 
 
 /// Returns the range of the primary label that comes first in the file, or an empty one if there is
 /// none.
+#[inline(never)]
 pub fn primary_span(site: Site<'_, '_>, labels: &[Label]) -> Range<usize> {
     let mut start = 0;
     let mut end = 0;

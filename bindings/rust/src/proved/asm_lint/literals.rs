@@ -33,6 +33,7 @@ fn is_dropped(c: char, rest: &str) -> bool {
 }
 
 /// Returns a text without the CR before each LF.
+#[inline(never)]
 pub fn without_crs(text: &str) -> Result<String, AllocError> {
     if !text.contains('\r') {
         return Ok(String::made_from(text)?);
@@ -64,6 +65,7 @@ fn put_newline(text: &mut String, appended: bool) -> Result<(), AllocError> {
 
 /// Reads the literal that a token is, and appends a newline to its text or not. Returns `None` if
 /// it stands for no text, and `Err` if an allocation fails.
+#[inline(never)]
 pub fn read_literal(token: &str, appended_newline: bool) -> Result<Option<Literal>, AllocError> {
     let snippet = without_crs(token)?;
     let Some(LiteralText { mut text, style }) = literal_text(snippet.as_str())? else {
@@ -79,6 +81,7 @@ pub fn read_literal(token: &str, appended_newline: bool) -> Result<Option<Litera
 
 /// Returns the CRs of a token that its literal with lines that end with LF does not have, each as
 /// the byte offset in that literal of the LF after it, in ascending order.
+#[inline(never)]
 pub fn dropped_crs(token: &str) -> Result<Vec<usize>, AllocError> {
     let mut offsets = Vec::new();
     if !token.contains('\r') {
@@ -97,6 +100,7 @@ pub fn dropped_crs(token: &str) -> Result<Vec<usize>, AllocError> {
 
 /// Returns the byte offset in a token of a byte offset in its literal with lines that end with LF,
 /// which does not have these CRs: those before it count. The CRs are those of [`dropped_crs`].
+#[inline(never)]
 pub fn offset_in(crs: &[usize], offset: usize) -> usize {
     let mut low = 0;
     let mut high = crs.len();

@@ -4,12 +4,12 @@
 // Extracted from crates/asm_lint/src/messages.rt by tools/extract: not to be edited.
 // That source has the contracts, and is proved. That this text means the same is only tested.
 
-use crate::proved::asm_lint::finding_labels::{labels, primary_span};
 use crate::proved::asm_lint::literals::{dropped_crs, read_literal};
+use crate::proved::asm_lint::placing::finding_of;
 use crate::proved::asm_lint::spans::Site;
 use crate::proved::message_faults::{message_faults, Message, MessageFault};
 use crate::proved::rust_trees::Token;
-use crate::proved::source_report::{Finding, Help};
+use crate::proved::source_report::Finding;
 use crate::shim::alloc::AllocError;
 use crate::shim::prelude::*;
 use alloc::collections::BTreeSet;
@@ -25,38 +25,15 @@ pub struct Item<'s, 'a> {
     pub names: &'s BTreeSet<&'a str>,
 }
 
-/// Returns a help, which has no edits.
-fn help(help: Option<&str>) -> Result<Option<Help>, AllocError> {
-    match help {
-        None => Ok(None),
-        Some(help) => {
-            let text = String::made_from(help)?;
-            let edits = Vec::new();
-            Ok(Some(Help { text, edits }))
-        }
-    }
-}
-
 /// Returns the finding of a fault, for a trait of this name.
+#[inline]
 fn finding(
     site: Site<'_, '_>,
     name: &str,
     fault: &MessageFault<'_>,
 ) -> Result<Finding, AllocError> {
-    let mut title = String::new();
-    fault.put_title(&mut title, name)?;
-    let labels = labels(site, fault.labels()?)?;
-    let span = primary_span(site, &labels);
-    let help = help(fault.help())?;
-    Ok(Finding {
-        is_warning: true,
-        id: fault.id(),
-        title,
-        span,
-        labels,
-        notes: Vec::new(),
-        help,
-    })
+    let diagnostic = fault.diagnostic(name)?;
+    finding_of(site, diagnostic)
 }
 
 /// Adds the findings of faults, for a trait of this name.
@@ -73,6 +50,7 @@ fn put_findings(
 }
 
 /// Reads the text that a literal stands for, before a trait, and adds its findings.
+#[inline(never)]
 pub fn read_text<'a>(
     findings: &mut Vec<Finding>,
     text: &'a str,

@@ -11,11 +11,12 @@ pub(crate) mod finding_labels;
 pub(crate) mod literals;
 pub(crate) mod messages;
 pub(crate) mod names;
+pub(crate) mod placing;
 pub(crate) mod spans;
 
 pub use assembly::{read_asm, reading_of};
 pub use attributes::read_attributes;
 pub use finding_labels::{labels, primary_span};
-pub use literals::{appends_newline, dropped_crs, offset_in, read_literal, without_crs};
+pub use literals::{appends_newline, dropped_crs, offset_in, read_literal, without_crs, Literal};
 pub use names::{name_of, without_raw};
 pub use spans::{call_range, range_in, spot_range, tokens_range, Site};

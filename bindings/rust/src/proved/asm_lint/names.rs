@@ -8,6 +8,7 @@ use crate::proved::rust_tokens::split_first;
 use crate::proved::rust_trees::Token;
 
 /// Returns a text without `r#` at its start.
+#[inline(never)]
 pub fn without_raw(text: &str) -> &str {
     let Some(('r', rest)) = split_first(text) else {
         return text;
@@ -19,6 +20,7 @@ pub fn without_raw(text: &str) -> &str {
 }
 
 /// Returns the name of an argument, without `r#`, or `None` if it has none.
+#[inline(never)]
 pub fn name_of<'a>(tokens: &[Token<'a>], argument: &Argument) -> Option<&'a str> {
     if !argument.is_named {
         return None;

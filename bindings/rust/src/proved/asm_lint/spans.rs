@@ -43,6 +43,7 @@ pub fn range_in(text: &str, from: usize, to: usize) -> Range<usize> {
 }
 
 /// Returns the bytes from one token to the one before another.
+#[inline(never)]
 pub fn tokens_range(tokens: &[Token<'_>], from: usize, to: usize) -> Range<usize> {
     let Some(first) = token_at(tokens, from) else {
         return 0..0;
@@ -64,6 +65,7 @@ fn word_start(bytes: &[u8], end: usize) -> usize {
 
 /// Returns the offset of the path whose last word starts at an offset of a text, where no white
 /// space stands in it.
+#[inline(never)]
 fn path_start(text: &str, name: usize) -> usize {
     let bytes = text.as_bytes();
     let mut start = name.min(bytes.len());
@@ -88,6 +90,7 @@ fn argument_range(site: Site<'_, '_>, index: usize) -> Range<usize> {
 }
 
 /// Returns the bytes of the first token of an argument, which is its name if it has one.
+#[inline(never)]
 fn name_range(site: Site<'_, '_>, index: usize) -> Range<usize> {
     match site.arguments.get(index) {
         Some(argument) => tokens_range(
@@ -100,6 +103,7 @@ fn name_range(site: Site<'_, '_>, index: usize) -> Range<usize> {
 }
 
 /// Returns the bytes of the value of an argument: without a name and its `=`.
+#[inline(never)]
 fn value_range(site: Site<'_, '_>, index: usize) -> Range<usize> {
     match site.arguments.get(index) {
         Some(argument) => {
@@ -116,6 +120,7 @@ fn value_range(site: Site<'_, '_>, index: usize) -> Range<usize> {
 
 /// Returns the bytes of the value of an argument, and those after it up to the value of the next
 /// one, if there is one.
+#[inline(never)]
 fn range_up_to_next(site: Site<'_, '_>, index: usize) -> Range<usize> {
     let value = value_range(site, index);
     let next = index.saturating_add(1);
@@ -139,6 +144,7 @@ fn whole_literal(literal: Token<'_>) -> Range<usize> {
 }
 
 /// Returns the empty range before the closing quote of the literal.
+#[inline(never)]
 fn literal_end(literal: Token<'_>) -> Range<usize> {
     let quote = match literal.text.rfind('"') {
         Some(quote) => quote,
@@ -150,6 +156,7 @@ fn literal_end(literal: Token<'_>) -> Range<usize> {
 
 /// Returns the bytes of a range of the literal, whose offsets are those of the literal with lines
 /// that end with LF.
+#[inline(never)]
 fn literal_range(site: Site<'_, '_>, from: usize, to: usize) -> Range<usize> {
     let literal = site.literal;
     let start = offset_in(site.crs, from);
@@ -158,6 +165,7 @@ fn literal_range(site: Site<'_, '_>, from: usize, to: usize) -> Range<usize> {
 }
 
 /// Returns the bytes of the file that a place of a call is.
+#[inline(never)]
 pub fn spot_range(site: Site<'_, '_>, spot: Spot) -> Range<usize> {
     let literal = site.literal;
     let range = match spot {

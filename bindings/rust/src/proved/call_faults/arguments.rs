@@ -71,6 +71,7 @@ fn first_of<'a>(arguments: &Arguments<'a>, argument: &FormatArgument<'a>) -> Opt
 }
 
 /// Adds an argument to those that count.
+#[inline(never)]
 fn keep<'a>(
     arguments: &mut Arguments<'a>,
     index: usize,
@@ -85,6 +86,7 @@ fn keep<'a>(
 }
 
 /// Adds an argument to those that count, unless an earlier one has its name, which is then a fault.
+#[inline(never)]
 fn add<'a>(
     arguments: &mut Arguments<'a>,
     faults: &mut Vec<CallFault<'a>>,
@@ -105,6 +107,7 @@ fn is_late<'a>(arguments: &Arguments<'a>, argument: &FormatArgument<'a>) -> bool
 }
 
 /// Returns the indices of those of arguments that have a name.
+#[inline(never)]
 fn named_of(list: &[Entry<'_>]) -> Result<Vec<usize>, AllocError> {
     let mut named_arguments = Vec::new();
     for entry in list {
@@ -117,6 +120,7 @@ fn named_of(list: &[Entry<'_>]) -> Result<Vec<usize>, AllocError> {
 
 /// Returns the arguments that count, or `None` if the first one without a name after one with a
 /// name ends the list. Adds the faults of the list.
+#[inline(never)]
 pub(crate) fn arguments_of<'a>(
     faults: &mut Vec<CallFault<'a>>,
     call_arguments: &[FormatArgument<'a>],

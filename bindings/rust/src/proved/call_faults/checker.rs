@@ -56,6 +56,7 @@ fn owned_string(text: Option<&str>) -> Result<Option<String>, AllocError> {
 }
 
 /// Returns the fault of a format string that rustc shows, or `None` if it is in the grammar.
+#[inline(never)]
 fn fault_of<'a>(string: FormatString<'a>) -> Result<Option<Fault<'a>>, AllocError> {
     let snippet = owned_string(string.snippet)?;
     let mut parser = Parser::new(
@@ -70,6 +71,7 @@ fn fault_of<'a>(string: FormatString<'a>) -> Result<Option<Fault<'a>>, AllocErro
 
 /// Returns the faults of a call whose format string has these pieces, and puts the indices of
 /// the arguments that count into `indices`. `is_read` is whether the string is in the grammar.
+#[inline(never)]
 fn faults_of<'a>(
     string: FormatString<'a>,
     is_read: bool,
@@ -104,6 +106,7 @@ fn faults_of<'a>(
 /// faults, as rustc reports them. A placeholder's spans are those of the parser.
 ///
 /// The number of hashes, the length of the text in bytes, and 2 must together fit into a `usize`.
+#[inline(never)]
 pub fn call_faults<'a>(
     string: FormatString<'a>,
     arguments: &'a [FormatArgument<'a>],

@@ -11,6 +11,7 @@ use crate::shim::prelude::*;
 use alloc::collections::BTreeMap;
 
 /// Returns the index of the argument that a lookup means, or `None` if it means none.
+#[inline(never)]
 fn meant<'a>(arguments: &Arguments<'a>, lookup: &Lookup<'a>) -> Option<usize> {
     match *lookup {
         Lookup::Refer(_, ArgRef::Index(n)) => arguments.list.get(n).map(|entry| entry.index),
@@ -20,6 +21,7 @@ fn meant<'a>(arguments: &Arguments<'a>, lookup: &Lookup<'a>) -> Option<usize> {
 }
 
 /// Returns of each argument whether a lookup means it, if there are `count` ones.
+#[inline(never)]
 fn marks<'a>(
     arguments: &Arguments<'a>,
     count: usize,
@@ -37,6 +39,7 @@ fn marks<'a>(
 }
 
 /// Returns the reference of a lookup, if it is one by an index that is at least `count`.
+#[inline(never)]
 fn reference_beyond(count: usize, lookup: &Lookup<'_>) -> Option<InvalidReference> {
     match *lookup {
         Lookup::Refer(reference, ArgRef::Index(index)) if index >= count => {
@@ -47,6 +50,7 @@ fn reference_beyond(count: usize, lookup: &Lookup<'_>) -> Option<InvalidReferenc
 }
 
 /// Returns the references by an index that is at least `count`.
+#[inline(never)]
 fn references_from(
     count: usize,
     lookups: &[Lookup<'_>],
@@ -61,6 +65,7 @@ fn references_from(
 }
 
 /// Returns the arguments that are not marked.
+#[inline(never)]
 fn unmarked_arguments<'a>(
     arguments: &[Entry<'a>],
     marks: &[bool],
@@ -76,6 +81,7 @@ fn unmarked_arguments<'a>(
 
 /// Adds the fault of a lookup: of a trait that does not exist, or of a name that no variable is
 /// captured for and that `indices` does not have, which it is then put into.
+#[inline(never)]
 fn look_up_one<'a>(
     faults: &mut Vec<CallFault<'a>>,
     indices: &mut BTreeMap<&'a str, usize>,
@@ -119,6 +125,7 @@ fn misses_name(faults: &[CallFault<'_>]) -> bool {
 }
 
 /// Returns a map that has the names that are the positions of placeholders.
+#[inline(never)]
 fn positions_of<'a>(lookups: &[Lookup<'a>]) -> Result<BTreeMap<&'a str, usize>, AllocError> {
     let mut names = BTreeMap::new();
     for lookup in lookups {
@@ -132,6 +139,7 @@ fn positions_of<'a>(lookups: &[Lookup<'a>]) -> Result<BTreeMap<&'a str, usize>, 
 }
 
 /// Returns whether an argument has no name, and is a variable whose name a map has.
+#[inline(never)]
 fn is_redundant<'a>(positions: &BTreeMap<&'a str, usize>, entry: &Entry<'a>) -> bool {
     match (entry.argument.name, entry.argument.variable) {
         (None, Some(variable)) => index_of(positions, variable).is_some(),
@@ -140,6 +148,7 @@ fn is_redundant<'a>(positions: &BTreeMap<&'a str, usize>, entry: &Entry<'a>) -> 
 }
 
 /// Returns the indices of the redundant ones of arguments that no lookup means.
+#[inline(never)]
 fn redundant_of<'a>(
     unused_entries: &[Entry<'a>],
     lookups: &[Lookup<'a>],
@@ -167,6 +176,7 @@ pub(crate) fn indices_of(arguments: &[Entry<'_>]) -> Result<Vec<usize>, AllocErr
 }
 
 /// Adds the fault of arguments that no lookup means: of the redundant ones, or else of all.
+#[inline(never)]
 fn push_unused_faults<'a>(
     faults: &mut Vec<CallFault<'a>>,
     unused_entries: &[Entry<'a>],
@@ -185,6 +195,7 @@ fn push_unused_faults<'a>(
 }
 
 /// Returns the fault of a lookup, if it means an argument with a name by its index.
+#[inline(never)]
 fn by_index<'a>(arguments: &[Entry<'a>], lookup: &Lookup<'a>) -> Option<CallFault<'a>> {
     match *lookup {
         Lookup::Refer(reference, ArgRef::Index(n)) => match arguments.get(n) {
@@ -234,6 +245,7 @@ fn is_settled(
 
 /// Adds what is wrong between the arguments that count, whose indices are below `count`, and
 /// lookups.
+#[inline(never)]
 pub(crate) fn compare<'a>(
     faults: &mut Vec<CallFault<'a>>,
     captures_variables: bool,

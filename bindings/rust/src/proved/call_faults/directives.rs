@@ -6,6 +6,7 @@
 use crate::proved::rustc_parse_format::Piece;
 
 /// Returns whether a byte is of a length in a directive of `printf`, before its conversion.
+#[inline(never)]
 fn is_length(byte: u8) -> bool {
     byte == b'h'
         || byte == b'j'
@@ -19,6 +20,7 @@ fn is_length(byte: u8) -> bool {
 
 /// Returns whether a byte makes a directive or a variable of what begins with `mark`: `%`, `$`, or
 /// 0 for nothing.
+#[inline(never)]
 fn ends_directive(mark: u8, byte: u8) -> bool {
     (mark == b'%' && byte != b'%' && !is_length(byte))
         || (mark == b'$' && (byte == b'_' || byte.is_ascii_alphanumeric()))
@@ -26,6 +28,7 @@ fn ends_directive(mark: u8, byte: u8) -> bool {
 
 /// Returns the mark with which a directive may begin after a byte, or 0 for none. A mark after
 /// itself stands for itself.
+#[inline(never)]
 fn next_mark(mark: u8, byte: u8) -> u8 {
     if mark == b'%' && is_length(byte) {
         mark
@@ -37,6 +40,7 @@ fn next_mark(mark: u8, byte: u8) -> u8 {
 }
 
 /// Returns whether a text has a directive or a variable.
+#[inline(never)]
 fn has_directive(text: &str) -> bool {
     let bytes = text.as_bytes();
     let mut mark = 0;

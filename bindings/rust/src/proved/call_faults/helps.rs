@@ -46,6 +46,7 @@ fn put_placeholders(out: &mut String, count: usize) -> Result<(), AllocError> {
 }
 
 /// Returns the help for so many unused arguments, or `None` if there is none.
+#[inline(never)]
 fn unused_help(call: &CallReport<'_>, count: usize) -> Result<Option<CallHelp>, AllocError> {
     if are_missing(&call.faults) || count != call.indices.len() || hold_directives(&call.pieces) {
         return Ok(None);
@@ -69,6 +70,7 @@ fn removed_spot(arguments: &[FormatArgument<'_>], index: usize) -> Spot {
 }
 
 /// Adds the edits that remove arguments.
+#[inline(never)]
 fn push_removals(
     edits: &mut Vec<CallEdit>,
     arguments: &[FormatArgument<'_>],
@@ -85,6 +87,7 @@ fn push_removals(
 }
 
 /// Returns the help for redundant arguments, or `None` if there is none.
+#[inline(never)]
 fn redundant_help(
     arguments: &[FormatArgument<'_>],
     redundant_indices: &[usize],
@@ -114,6 +117,7 @@ fn name_in(part: Part, name: &str) -> Result<String, AllocError> {
 }
 
 /// Returns the help for a use by index of an argument with a name.
+#[inline(never)]
 fn by_index_help(
     call: &CallReport<'_>,
     reference: Reference,
@@ -127,6 +131,7 @@ fn by_index_help(
 }
 
 /// Returns the help that replaces a text.
+#[inline(never)]
 fn replacement_help(spot: Spot, new: &str) -> Result<CallHelp, AllocError> {
     let mut text = String::made_from("did you mean `")?;
     text.try_push_str(new)?;
@@ -155,6 +160,7 @@ fn added_spot(count: usize) -> Spot {
 }
 
 /// Returns the help for an expression at this place of the string.
+#[inline(never)]
 fn positional_help(
     arguments: &[FormatArgument<'_>],
     span: &Range<usize>,
@@ -178,6 +184,7 @@ fn positional_help(
 }
 
 /// Returns the help for `=` after an argument, or `None` unless one argument counts.
+#[inline(never)]
 fn debug_help(indices: &[usize]) -> Result<Option<CallHelp>, AllocError> {
     let [index] = indices else {
         return Ok(None);
@@ -195,6 +202,7 @@ fn debug_help(indices: &[usize]) -> Result<Option<CallHelp>, AllocError> {
 }
 
 /// Returns the help for a fault of the string, or `None` if it has none that is no label.
+#[inline(never)]
 fn text_help(call: &CallReport<'_>, fault: &Fault<'_>) -> Result<Option<CallHelp>, AllocError> {
     let error = fault.error()?;
     match &error.suggestion {
@@ -216,6 +224,7 @@ fn text_help(call: &CallReport<'_>, fault: &Fault<'_>) -> Result<Option<CallHelp
 impl<'a> CallReport<'a> {
     /// Returns the suggestion of rustc for one of the faults, or `None` if there is none or it is
     /// in a label. The suggestions for the directives of other languages are left out.
+    #[inline(never)]
     pub(crate) fn help(&self, fault: &CallFault<'a>) -> Result<Option<CallHelp>, AllocError> {
         match fault {
             CallFault::PositionalAfterNamed { .. }

@@ -25,6 +25,7 @@ fn named_text() -> &'static str {
 }
 
 /// Adds the labels of arguments that have a name.
+#[inline(never)]
 fn push_named(labels: &mut Vec<CallLabel>, named_arguments: &[usize]) -> Result<(), AllocError> {
     let mut rest = named_arguments;
     while let Some((index, others)) = rest.split_first() {
@@ -35,6 +36,7 @@ fn push_named(labels: &mut Vec<CallLabel>, named_arguments: &[usize]) -> Result<
 }
 
 /// Adds the label of a second range of an error.
+#[inline(never)]
 fn push_second_label(
     labels: &mut Vec<CallLabel>,
     error: &ParseError,
@@ -50,6 +52,7 @@ fn push_second_label(
 }
 
 /// Adds a help that is drawn as a label.
+#[inline(never)]
 fn push_inline_help(labels: &mut Vec<CallLabel>, error: &ParseError) -> Result<(), AllocError> {
     match &error.suggestion {
         Suggestion::RemoveRawIdent(span) => {
@@ -68,6 +71,7 @@ fn push_inline_help(labels: &mut Vec<CallLabel>, error: &ParseError) -> Result<(
 }
 
 /// Adds the second label of an error of the string.
+#[inline(never)]
 fn push_second(labels: &mut Vec<CallLabel>, error: &ParseError) -> Result<(), AllocError> {
     match &error.secondary_label {
         None => push_inline_help(labels, error)?,
@@ -77,6 +81,7 @@ fn push_second(labels: &mut Vec<CallLabel>, error: &ParseError) -> Result<(), Al
 }
 
 /// Adds the labels of a fault of the string.
+#[inline(never)]
 fn push_text(labels: &mut Vec<CallLabel>, fault: &Fault<'_>) -> Result<(), AllocError> {
     let error = fault.error()?;
     let mut text = String::made_from(&error.label)?;
@@ -87,6 +92,7 @@ fn push_text(labels: &mut Vec<CallLabel>, fault: &Fault<'_>) -> Result<(), Alloc
 }
 
 /// Adds the labels of arguments that are not used.
+#[inline(never)]
 fn push_unused(
     labels: &mut Vec<CallLabel>,
     arguments: &[FormatArgument<'_>],
@@ -107,6 +113,7 @@ fn single_text() -> &'static str {
 }
 
 /// Adds the labels of an argument that is not used, and that of the literal.
+#[inline(never)]
 fn push_one_unused(
     labels: &mut Vec<CallLabel>,
     arguments: &[FormatArgument<'_>],
@@ -177,6 +184,7 @@ fn push_removal_up_to_next(labels: &mut Vec<CallLabel>, index: usize) -> Result<
 }
 
 /// Adds the labels of an argument that is left out.
+#[inline(never)]
 fn push_removal(
     labels: &mut Vec<CallLabel>,
     arguments: &[FormatArgument<'_>],
@@ -191,6 +199,7 @@ fn push_removal(
 }
 
 /// Adds labels without a text of the values of redundant arguments.
+#[inline(never)]
 fn push_bare(labels: &mut Vec<CallLabel>, indices: &[usize]) -> Result<(), AllocError> {
     let mut rest = indices;
     while let Some((index, others)) = rest.split_first() {
@@ -229,6 +238,7 @@ fn use_text(name: &str) -> Result<String, AllocError> {
 }
 
 /// Adds the labels of the use by index of an argument with a name.
+#[inline(never)]
 fn push_by_index(
     labels: &mut Vec<CallLabel>,
     call: &CallReport<'_>,
@@ -247,6 +257,7 @@ impl<'a> CallReport<'a> {
     /// Returns the labels of one of the faults, as rustc has them. The primary label that begins
     /// first in the source is where rustc says that the fault is. A fault of the string has the
     /// labels of its error.
+    #[inline(never)]
     pub(crate) fn labels(&self, fault: &CallFault<'a>) -> Result<Vec<CallLabel>, AllocError> {
         let mut labels = Vec::new();
         match fault {

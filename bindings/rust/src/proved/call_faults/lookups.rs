@@ -27,6 +27,7 @@ pub(crate) enum Lookup<'a> {
 }
 
 /// Returns the argument that a position wants.
+#[inline(never)]
 fn arg_ref_of<'a>(position: &Position<'a>) -> ArgRef<'a> {
     match position {
         Position::ArgumentImplicitlyIs(n) | Position::ArgumentIs(n) => ArgRef::Index(*n),
@@ -35,6 +36,7 @@ fn arg_ref_of<'a>(position: &Position<'a>) -> ArgRef<'a> {
 }
 
 /// Adds the reference of a precision or of a width, if it is one.
+#[inline(never)]
 fn push_count<'a>(
     list: &mut Vec<Lookup<'a>>,
     reference: Reference,
@@ -58,6 +60,7 @@ fn names_trait(c: char) -> bool {
 }
 
 /// Returns whether the type of a format specification names a trait.
+#[inline(never)]
 fn is_known(ty: &str) -> bool {
     let mut characters = ty.chars();
     match characters.next() {
@@ -67,6 +70,7 @@ fn is_known(ty: &str) -> bool {
 }
 
 /// Adds the lookups for a placeholder.
+#[inline(never)]
 fn push_argument<'a>(
     list: &mut Vec<Lookup<'a>>,
     piece: usize,
@@ -101,6 +105,7 @@ fn push_piece<'a>(
 }
 
 /// Returns the lookups for pieces.
+#[inline(never)]
 pub(crate) fn lookups_of<'a>(pieces: &[Piece<'a>]) -> Result<Vec<Lookup<'a>>, AllocError> {
     let mut list = Vec::new();
     for (index, piece) in pieces.iter().enumerate() {

@@ -17,6 +17,7 @@ use crate::shim::prelude::*;
 use core::ops::Range;
 
 /// Adds the labels of references by an index that is too large.
+#[inline(never)]
 pub(crate) fn push_missing(
     labels: &mut Vec<CallLabel>,
     pieces: &[Piece<'_>],
@@ -31,6 +32,7 @@ pub(crate) fn push_missing(
 }
 
 /// Returns the index of the argument that a precision takes by `*`, or `None` if it takes none.
+#[inline(never)]
 pub(crate) fn star_of(count: &Count<'_>) -> Option<usize> {
     match count {
         Count::CountIsStar(index) => Some(*index),
@@ -48,6 +50,7 @@ fn is_next(position: &Position<'_>) -> bool {
 }
 
 /// Adds the label of a placeholder that takes the next argument, if the piece is one.
+#[inline(never)]
 fn push_next(
     labels: &mut Vec<CallLabel>,
     piece: &Piece<'_>,
@@ -77,6 +80,7 @@ fn push_nexts(
 }
 
 /// Adds labels without a text of the values of arguments.
+#[inline(never)]
 fn push_values(labels: &mut Vec<CallLabel>, indices: &[usize]) -> Result<(), AllocError> {
     let mut rest = indices;
     while let Some((index, others)) = rest.split_first() {
@@ -87,6 +91,7 @@ fn push_values(labels: &mut Vec<CallLabel>, indices: &[usize]) -> Result<(), All
 }
 
 /// Adds how many arguments are expected.
+#[inline(never)]
 fn put_expected(out: &mut String, count: usize) -> Result<(), AllocError> {
     if count == 1 {
         out.try_push_str("is 1 argument")?;
@@ -100,6 +105,7 @@ fn put_expected(out: &mut String, count: usize) -> Result<(), AllocError> {
 
 /// Adds the text of a precision that takes the argument `index` by `*`, where the
 /// placeholders take `total` in all.
+#[inline(never)]
 fn put_star(out: &mut String, index: usize, total: usize) -> Result<(), AllocError> {
     out.try_push_str("this precision flag adds an extra required argument at position ")?;
     put_number(out, index)?;
@@ -110,6 +116,7 @@ fn put_star(out: &mut String, index: usize, total: usize) -> Result<(), AllocErr
 }
 
 /// Adds the label of a precision that takes an argument by `*`, if the piece has one.
+#[inline(never)]
 fn push_star(
     labels: &mut Vec<CallLabel>,
     total: usize,
@@ -144,6 +151,7 @@ fn push_stars(
 }
 
 /// Returns the labels of too few arguments, where none is referred to by a number that is written.
+#[inline(never)]
 pub(crate) fn few_labels(call: &CallReport<'_>) -> Result<Vec<CallLabel>, AllocError> {
     let mut labels = Vec::new();
     push_values(&mut labels, &call.indices)?;

@@ -92,6 +92,7 @@ fn is_aligned(align: Alignment) -> bool {
 }
 
 /// Returns whether a specification has more than a trait.
+#[inline(never)]
 fn has_flags(format: &FormatSpec<'_>) -> bool {
     ((format.fill.is_some() || is_aligned(format.align))
         || (format.sign.is_some() || format.alternate))
@@ -150,6 +151,7 @@ fn flags_note() -> &'static str {
 }
 
 /// Adds the notes of missing arguments.
+#[inline(never)]
 fn push_missing(notes: &mut Vec<CallNote>, pieces: &[Piece<'_>]) -> Result<(), AllocError> {
     let is_counted = have_numbers(pieces) || have_stars(pieces);
     push_if(notes, is_counted, count_note())?;
@@ -168,6 +170,7 @@ pub(crate) fn are_missing(faults: &[CallFault<'_>]) -> bool {
 }
 
 /// Adds so many placeholders, in words.
+#[inline(never)]
 pub(crate) fn put_specifiers(out: &mut String, count: usize) -> Result<(), AllocError> {
     if count == 1 {
         out.try_push_str("a format specifier")?;
@@ -179,6 +182,7 @@ pub(crate) fn put_specifiers(out: &mut String, count: usize) -> Result<(), Alloc
 }
 
 /// Adds the note of so many unused arguments, if there is one.
+#[inline(never)]
 fn push_unused(
     notes: &mut Vec<CallNote>,
     call: &CallReport<'_>,
@@ -202,6 +206,7 @@ fn variable_of<'a>(arguments: &[FormatArgument<'a>], index: usize) -> Option<&'a
 }
 
 /// Returns the variables that arguments are, as the names that a map has.
+#[inline(never)]
 fn variables_of<'a>(
     arguments: &[FormatArgument<'a>],
     indices: &[usize],
@@ -224,6 +229,7 @@ fn is_name<'a>(names: &BTreeMap<&'a str, usize>, position: &Position<'a>) -> boo
 }
 
 /// Adds the place of the position of a piece, if that is a name that a map has.
+#[inline(never)]
 fn push_position<'a>(
     spots: &mut Vec<Spot>,
     names: &BTreeMap<&'a str, usize>,
@@ -260,6 +266,7 @@ fn redundant_text(count: usize) -> &'static str {
 }
 
 /// Adds the note of redundant arguments.
+#[inline(never)]
 fn push_redundant<'a>(
     notes: &mut Vec<CallNote>,
     call: &CallReport<'a>,
@@ -275,6 +282,7 @@ fn push_redundant<'a>(
 impl<'a> CallReport<'a> {
     /// Returns the notes of one of the faults, as rustc has them, but for the note of a warning
     /// which says that it is on by default. A fault of the string has the note of its error.
+    #[inline(never)]
     pub(crate) fn notes(&self, fault: &CallFault<'a>) -> Result<Vec<CallNote>, AllocError> {
         let mut notes = Vec::new();
         match fault {

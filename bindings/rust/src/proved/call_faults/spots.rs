@@ -106,6 +106,7 @@ fn placeholder_at<'p, 'a>(pieces: &'p [Piece<'a>], index: usize) -> Option<&'p A
 }
 
 /// Returns where a part of a placeholder is.
+#[inline(never)]
 fn part_spot(argument: &Argument<'_>, part: Part) -> Spot {
     match part {
         Part::Position => bytes_at(&argument.position_span),
@@ -123,6 +124,7 @@ pub(crate) fn reference_spot(pieces: &[Piece<'_>], reference: Reference) -> Spot
 }
 
 /// Returns where the name of a width or a precision is.
+#[inline(never)]
 fn count_spot(count: &Count<'_>) -> Spot {
     match count {
         Count::CountIsName(_, span) => bytes_at(span),
@@ -134,6 +136,7 @@ fn count_spot(count: &Count<'_>) -> Spot {
 }
 
 /// Returns where the name in a part of a placeholder is.
+#[inline(never)]
 fn name_spot(argument: &Argument<'_>, part: Part) -> Spot {
     match part {
         Part::Position => bytes_at(&argument.position_span),
@@ -159,6 +162,7 @@ pub(crate) fn type_spot(pieces: &[Piece<'_>], index: usize) -> Spot {
 }
 
 /// Returns the places of the placeholders after a piece, from those from that piece on.
+#[inline(never)]
 pub(crate) fn rest_after<'p>(piece: &Piece<'_>, places: &'p [Range<usize>]) -> &'p [Range<usize>] {
     match piece {
         Piece::Lit(_) => places,
@@ -178,6 +182,7 @@ fn count_with(count: usize, piece: &Piece<'_>) -> usize {
 }
 
 /// Returns of each of these pieces how many placeholders stand before it.
+#[inline(never)]
 pub(crate) fn counts_before(pieces: &[Piece<'_>]) -> Result<Vec<usize>, AllocError> {
     let mut counts = Vec::made_for(pieces.len())?;
     let mut count = 0;
@@ -198,6 +203,7 @@ pub(crate) fn first_spot(places: &[Range<usize>]) -> Spot {
 
 /// Returns the place of the placeholder with an index among pieces, before each of which so many
 /// stand, or the whole literal if it has none.
+#[inline(never)]
 fn place_spot(counts: &[usize], places: &[Range<usize>], index: usize) -> Spot {
     let Some(count) = counts.get(index) else {
         return Spot::Literal;
@@ -209,6 +215,7 @@ fn place_spot(counts: &[usize], places: &[Range<usize>], index: usize) -> Spot {
 }
 
 /// Returns a range without its first byte, which is the dot of a precision.
+#[inline(never)]
 fn after_dot(span: &Option<Range<usize>>) -> Spot {
     match span {
         None => Spot::Literal,
@@ -221,6 +228,7 @@ fn after_dot(span: &Option<Range<usize>>) -> Spot {
 
 /// Returns where a use by index is shown: the whole placeholder, or the width or the precision
 /// without its dot.
+#[inline(never)]
 pub(crate) fn use_spot(
     pieces: &[Piece<'_>],
     counts: &[usize],
@@ -239,6 +247,7 @@ pub(crate) fn use_spot(
 
 /// Returns where a reference has the index of its argument: its position, or its width or its
 /// precision without its dot.
+#[inline(never)]
 pub(crate) fn index_spot(pieces: &[Piece<'_>], reference: Reference) -> Spot {
     match placeholder_at(pieces, reference.piece) {
         None => Spot::Literal,

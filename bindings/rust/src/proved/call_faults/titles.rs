@@ -16,6 +16,7 @@ use crate::shim::prelude::*;
 impl CallFault<'_> {
     /// Returns the id of the fault in kebab case, as `unused-argument`: the same for all faults of
     /// a kind. A fault of the format string has the id of its [`Fault`]. Does not allocate.
+    #[inline(never)]
     pub fn id(&self) -> &'static str {
         match self {
             CallFault::PositionalAfterNamed { .. } => "positional-after-named",
@@ -39,6 +40,7 @@ pub(crate) fn put_number(out: &mut String, number: usize) -> Result<(), AllocErr
 }
 
 /// Adds how many arguments are given.
+#[inline(never)]
 fn put_count(out: &mut String, count: usize) -> Result<(), AllocError> {
     if count == 0 {
         out.try_push_str("no arguments were given")?;
@@ -74,6 +76,7 @@ fn put_separator(out: &mut String, others: &[usize]) -> Result<(), AllocError> {
 }
 
 /// Adds numbers one after the other.
+#[inline(never)]
 fn put_numbers(out: &mut String, numbers: &[usize]) -> Result<(), AllocError> {
     let mut rest = numbers;
     while let Some((first, others)) = rest.split_first() {
@@ -124,6 +127,7 @@ fn is_number(position: &Position<'_>) -> bool {
 }
 
 /// Returns whether a piece refers to an argument by a number that is written.
+#[inline(never)]
 fn has_number(piece: &Piece<'_>) -> bool {
     match piece {
         Piece::Lit(_) => false,
@@ -147,6 +151,7 @@ pub(crate) fn have_numbers(pieces: &[Piece<'_>]) -> bool {
 }
 
 /// Adds the title of numbers that are too large, where `count` arguments are given.
+#[inline(never)]
 fn put_numbers_title(out: &mut String, numbers: &[usize], count: usize) -> Result<(), AllocError> {
     out.try_push_str("invalid reference to positional ")?;
     put_noun(out, "argument", numbers.len())?;
@@ -159,6 +164,7 @@ fn put_numbers_title(out: &mut String, numbers: &[usize], count: usize) -> Resul
 }
 
 /// Adds the title of too few arguments, where `count` are given and the placeholders take `total`.
+#[inline(never)]
 fn put_few_title(out: &mut String, total: usize, count: usize) -> Result<(), AllocError> {
     put_number(out, total)?;
     put_noun(out, " positional argument", total)?;
@@ -213,6 +219,7 @@ fn put_text_title(out: &mut String, fault: &Fault<'_>) -> Result<(), AllocError>
 }
 
 /// Adds the title of missing arguments.
+#[inline(never)]
 fn put_missing(out: &mut String, call: &CallReport<'_>) -> Result<(), AllocError> {
     let count = call.indices.len();
     if have_numbers(&call.pieces) {
@@ -226,6 +233,7 @@ fn put_missing(out: &mut String, call: &CallReport<'_>) -> Result<(), AllocError
 
 impl<'a> CallReport<'a> {
     /// Adds the title of one of the faults to the end of `out`, as rustc has it.
+    #[inline(never)]
     pub(crate) fn put_title(
         &self,
         out: &mut String,

@@ -19,6 +19,7 @@ use crate::shim::prelude::*;
 
 /// Returns the only addition of a line, or `None` if there are several, or a text of the line is in
 /// front of it.
+#[inline(never)]
 fn lone_addition<'a>(parts: &[Part<'a>]) -> Option<&'a str> {
     for (index, part) in parts.iter().enumerate() {
         if is_added(part) {
@@ -36,6 +37,7 @@ fn lone_addition<'a>(parts: &[Part<'a>]) -> Option<&'a str> {
 
 /// Returns how many cells a text takes, if a tab takes four of them, and another character one.
 /// Returns `Err` if it is too long for memory.
+#[inline(never)]
 fn cells_of(text: &str) -> Result<usize, AllocError> {
     if text.len() >= 1 << (usize::BITS - 5) {
         return crate::shim::alloc::refuse();
@@ -50,6 +52,7 @@ fn cells_of(text: &str) -> Result<usize, AllocError> {
 }
 
 /// Returns whether parts have so many bytes.
+#[inline(never)]
 fn have_bytes(count: usize, parts: &[Part<'_>]) -> bool {
     let mut countdown = count;
     for part in parts {
@@ -62,6 +65,7 @@ fn have_bytes(count: usize, parts: &[Part<'_>]) -> bool {
 }
 
 /// Returns the sign of a changed line, or `None` if it has none.
+#[inline(never)]
 fn sign_of(parts: &[Part<'_>]) -> Result<Option<&'static str>, AllocError> {
     let Some(text) = lone_addition(parts) else {
         return Ok(Some("~ "));
@@ -77,6 +81,7 @@ fn sign_of(parts: &[Part<'_>]) -> Result<Option<&'static str>, AllocError> {
 }
 
 /// Adds the row of a changed line.
+#[inline(never)]
 fn put_changed_row(
     out: &mut String,
     frame: &Frame<'_>,
@@ -91,6 +96,7 @@ fn put_changed_row(
 }
 
 /// Adds the rows of several new lines up to the last changed one, from a number on.
+#[inline(never)]
 fn put_changed_rows(
     out: &mut String,
     frame: &Frame<'_>,
@@ -109,6 +115,7 @@ fn put_changed_rows(
 }
 
 /// Adds the row of a new line, unless it is blank.
+#[inline(never)]
 fn put_new_row(
     out: &mut String,
     frame: &Frame<'_>,
@@ -124,6 +131,7 @@ fn put_new_row(
 }
 
 /// Adds the rows of old lines and of a new one.
+#[inline(never)]
 fn put_replaced_rows(
     out: &mut String,
     frame: &Frame<'_>,
@@ -148,6 +156,7 @@ fn put_replaced_rows(
 }
 
 /// Returns how many columns a text takes. Returns `Err` if it is too long for memory.
+#[inline(never)]
 fn columns_of(text: &str) -> Result<usize, AllocError> {
     if text.len() >= 1 << (usize::BITS - 5) {
         return crate::shim::alloc::refuse();
@@ -163,6 +172,7 @@ fn columns_of(text: &str) -> Result<usize, AllocError> {
 
 /// Adds the signs under an addition, after so many spaces. Returns how many columns after these
 /// signs the addition ends.
+#[inline(never)]
 fn put_pluses(
     out: &mut String,
     palette: Palette,
@@ -187,6 +197,7 @@ fn put_pluses(
 }
 
 /// Adds the signs under the additions of a line.
+#[inline(never)]
 fn put_plus_signs(
     out: &mut String,
     palette: Palette,
@@ -224,6 +235,7 @@ fn is_whole(parts: &[Part<'_>]) -> bool {
 }
 
 /// Adds the rows of a line in which something is added.
+#[inline(never)]
 fn put_inserted_rows(
     out: &mut String,
     frame: &Frame<'_>,
@@ -244,6 +256,7 @@ fn put_inserted_rows(
 }
 
 /// Adds the rows of parts in one new line.
+#[inline(never)]
 fn put_line_rows(
     out: &mut String,
     frame: &Frame<'_>,
@@ -264,6 +277,7 @@ fn put_line_rows(
 }
 
 /// Adds the rows of parts with these new lines.
+#[inline(never)]
 fn put_new_rows(
     out: &mut String,
     frame: &Frame<'_>,
@@ -294,6 +308,7 @@ fn edited_parts<'a>(
 }
 
 /// Adds the rows of edits from a line on.
+#[inline(never)]
 fn put_rows_from(
     out: &mut String,
     frame: &Frame<'_>,

@@ -6,7 +6,7 @@
 use crate::proved::drawn_edits::edited::{Line, Part};
 use crate::proved::drawn_lines::{
     draws_nothing, has_colours, put_glyphs, put_glyphs_after, put_line_number, put_number_bar,
-    put_painted_text, put_reset, put_sign, Frame, Palette, Style,
+    put_painted_text, put_reset, put_run, put_sign, Frame, Palette, Style,
 };
 use crate::shim::alloc::AllocError;
 use crate::shim::prelude::*;
@@ -20,6 +20,7 @@ fn put_plain_parts(out: &mut String, parts: &[Part<'_>]) -> Result<(), AllocErro
 }
 
 /// Adds parts of a line in colours, after a sign of this style.
+#[inline(never)]
 fn put_coloured_parts(
     out: &mut String,
     palette: Palette,
@@ -37,6 +38,7 @@ fn put_coloured_parts(
 }
 
 /// Adds parts of a line, after a sign of this style.
+#[inline(never)]
 fn put_parts(
     out: &mut String,
     palette: Palette,
@@ -53,6 +55,7 @@ fn put_parts(
 }
 
 /// Adds the row of a line with a number, after a sign of this style.
+#[inline(never)]
 pub fn put_sign_row(
     out: &mut String,
     frame: &Frame<'_>,
@@ -69,6 +72,7 @@ pub fn put_sign_row(
 }
 
 /// Adds the rows of lines after a sign of this style, from a number on.
+#[inline(never)]
 pub fn put_sign_rows(
     out: &mut String,
     frame: &Frame<'_>,
@@ -116,6 +120,7 @@ pub fn put_kept_row(
 }
 
 /// Adds the rows of such lines, from a number on.
+#[inline(never)]
 fn put_kept_rows(
     out: &mut String,
     frame: &Frame<'_>,
@@ -129,6 +134,7 @@ fn put_kept_rows(
 }
 
 /// Adds the rows of lines from the number `n` on, and of others from `m` on, and dots between them.
+#[inline(never)]
 fn put_kept_ends(
     out: &mut String,
     frame: &Frame<'_>,
@@ -138,6 +144,7 @@ fn put_kept_ends(
     last: &[Line<'_>],
 ) -> Result<(), AllocError> {
     put_kept_rows(out, frame, n, first)?;
+    put_run(out, ' ', frame.gutter.columns.saturating_sub(3))?;
     put_painted_text(out, frame.gutter.palette, Style::Secondary, "...")?;
     out.try_push_str("\n")?;
     put_kept_rows(out, frame, m, last)?;
@@ -146,6 +153,7 @@ fn put_kept_ends(
 
 /// Adds the rows of such lines in front of a changed one: of more than three the first and the last
 /// one.
+#[inline(never)]
 pub fn put_kept_lines(
     out: &mut String,
     frame: &Frame<'_>,

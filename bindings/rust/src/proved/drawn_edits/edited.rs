@@ -53,6 +53,7 @@ pub struct Line<'a> {
 
 /// Returns the first characters of a text, as many as end within `width` bytes, and what is after
 /// them.
+#[inline(never)]
 pub fn split_within(text: &str, width: usize) -> (&str, &str) {
     let mut rest = text;
     let mut countdown = width;
@@ -68,6 +69,7 @@ pub fn split_within(text: &str, width: usize) -> (&str, &str) {
 
 /// Returns the parts of a text at the byte offset `start` of the source, from its first line to the
 /// end of the line in which the last edit ends.
+#[inline(never)]
 pub fn parts_of<'a>(
     start: usize,
     text: &'a str,
@@ -105,6 +107,7 @@ pub fn parts_of<'a>(
 }
 
 /// Adds a part of a line, and ends the line.
+#[inline(never)]
 fn end_line<'a>(
     lines: &mut Vec<Line<'a>>,
     row: &mut Vec<Part<'a>>,
@@ -123,6 +126,7 @@ fn split_feed(text: &str) -> Option<(&str, &str)> {
 }
 
 /// Adds a text of a style after lines.
+#[inline(never)]
 fn push_text<'a>(
     lines: &mut Vec<Line<'a>>,
     row: &mut Vec<Part<'a>>,
@@ -139,6 +143,7 @@ fn push_text<'a>(
 }
 
 /// Adds parts after lines, but for those of the style `style`.
+#[inline(never)]
 fn push_parts<'a>(
     lines: &mut Vec<Line<'a>>,
     row: &mut Vec<Part<'a>>,
@@ -164,6 +169,7 @@ fn have_no_text(parts: &[Part<'_>]) -> bool {
 }
 
 /// Returns how many of lines there are up to the last one with a text.
+#[inline(never)]
 fn count_to_text(lines: &[Line<'_>]) -> usize {
     let mut count = 0;
     for (index, line) in lines.iter().enumerate() {
@@ -176,6 +182,7 @@ fn count_to_text(lines: &[Line<'_>]) -> usize {
 
 /// Adds the lines of parts without what they remove. Leaves out what is after the last edit if the
 /// text of that edit ends a line.
+#[inline(never)]
 fn push_new_part<'a>(
     lines: &mut Vec<Line<'a>>,
     row: &mut Vec<Part<'a>>,
@@ -191,6 +198,7 @@ fn push_new_part<'a>(
 }
 
 /// Returns the new lines of parts, without those at their end that have no text.
+#[inline(never)]
 pub fn new_lines<'a>(parts: &[Part<'a>]) -> Result<Vec<Line<'a>>, AllocError> {
     let mut lines = Vec::new();
     let mut row = Vec::new();
@@ -202,6 +210,7 @@ pub fn new_lines<'a>(parts: &[Part<'a>]) -> Result<Vec<Line<'a>>, AllocError> {
 }
 
 /// Returns the lines of parts without what they add.
+#[inline(never)]
 pub fn old_lines<'a>(parts: &[Part<'a>]) -> Result<Vec<Line<'a>>, AllocError> {
     let mut lines = Vec::new();
     let mut row = Vec::new();
@@ -265,6 +274,7 @@ fn text_of(lines: &[Line<'_>]) -> Result<String, AllocError> {
 }
 
 /// Returns whether the text of the last old line is that of the only new one.
+#[inline(never)]
 pub fn is_same_end(old: &[Line<'_>], new: &[Line<'_>]) -> Result<bool, AllocError> {
     let [line, ..] = new else {
         return Ok(false);

@@ -9,6 +9,4 @@ pub(crate) mod edited;
 pub(crate) mod suggestions;
 
 pub use edited::{placed_edit, Edit};
-pub use suggestions::put_edit;
-#[cfg(feature = "programs")]
 pub use suggestions::{put_edits, put_help_word};

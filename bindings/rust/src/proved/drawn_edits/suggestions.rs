@@ -1,4 +1,4 @@
-//! A suggestion with its old and its new lines. A function whose name begins with `put_` appends to
+//! Edits with the old and the new lines. A function whose name begins with `put_` appends to
 //! `out`.
 
 // Extracted from crates/drawn_edits/src/suggestions.rt by tools/extract: not to be edited.
@@ -6,7 +6,7 @@
 
 use crate::proved::drawn_edits::changes::put_rows;
 use crate::proved::drawn_edits::edited::Edit;
-use crate::proved::drawn_lines::{put_glyphs, put_painted_text, Frame, Palette, Style};
+use crate::proved::drawn_lines::{put_painted_text, Frame, Palette, Style};
 use crate::shim::alloc::AllocError;
 use crate::shim::prelude::*;
 
@@ -14,15 +14,6 @@ use crate::shim::prelude::*;
 pub fn put_help_word(out: &mut String, palette: Palette) -> Result<(), AllocError> {
     put_painted_text(out, palette, Style::Help, "help")?;
     out.try_push_str(": ")?;
-    Ok(())
-}
-
-/// Adds the title of a suggestion.
-fn put_help_title(out: &mut String, palette: Palette, text: &str) -> Result<(), AllocError> {
-    put_help_word(out, palette)?;
-    out.try_push_str("did you mean `")?;
-    put_glyphs(out, text, 0)?;
-    out.try_push_str("`?\n")?;
     Ok(())
 }
 
@@ -34,12 +25,5 @@ pub fn put_edits(
     edits: &[Edit<'_>],
 ) -> Result<(), AllocError> {
     put_rows(out, frame, edits)?;
-    Ok(())
-}
-
-/// Adds the rows of an edit.
-pub fn put_edit(out: &mut String, frame: &Frame<'_>, edit: &Edit<'_>) -> Result<(), AllocError> {
-    put_help_title(out, frame.gutter.palette, edit.text)?;
-    put_edits(out, frame, &[*edit])?;
     Ok(())
 }

@@ -74,6 +74,7 @@ fn labels_of<'a>(
 }
 
 /// Returns the gutter of a diagnostic with these labels.
+#[inline(never)]
 fn gutter_of(
     picture: &Picture<'_>,
     diagnostic: &Diagnostic<'_>,
@@ -88,6 +89,7 @@ fn gutter_of(
 }
 
 /// Adds the row between the labels and what is below them, if there is anything.
+#[inline(never)]
 fn put_parting_above(
     out: &mut String,
     frame: &Frame<'_>,
@@ -118,6 +120,7 @@ fn level_of(level: Level) -> Palette {
 }
 
 /// Adds the drawing of a diagnostic with these labels in a layout.
+#[inline(never)]
 fn put_drawn_diagnostic(
     out: &mut String,
     frame: &Frame<'_>,
@@ -139,12 +142,17 @@ fn put_drawn_diagnostic(
     Ok(())
 }
 
+/// How many bytes most drawings have at most, besides their title.
+const ROOM: usize = 768;
+
 /// Adds the drawing of a diagnostic.
+#[inline(never)]
 fn put_diagnostic(
     out: &mut String,
     picture: &Picture<'_>,
     diagnostic: &Diagnostic<'_>,
 ) -> Result<(), AllocError> {
+    out.try_reserve_more(diagnostic.title.len().saturating_add(ROOM))?;
     let labels = labels_of(picture, diagnostic.labels)?;
     let gutter = gutter_of(picture, diagnostic, &labels)?;
     let frame = frame_of(picture, gutter, &labels);

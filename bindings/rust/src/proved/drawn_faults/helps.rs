@@ -23,6 +23,7 @@ pub struct SourceHelp<'a> {
 }
 
 /// Returns edits with their places in the source.
+#[inline(never)]
 fn placed_edits<'a>(
     picture: &Picture<'_>,
     edits: &[SourceEdit<'a>],
@@ -35,6 +36,7 @@ fn placed_edits<'a>(
 }
 
 /// Returns the last line that helps edit, or `last` if that is further down.
+#[inline(never)]
 pub fn last_help_line(
     picture: &Picture<'_>,
     last: usize,
@@ -49,6 +51,7 @@ pub fn last_help_line(
 }
 
 /// Adds the start of a help without edits.
+#[inline(never)]
 fn put_help_row_word(out: &mut String, gutter: Gutter) -> Result<(), AllocError> {
     put_run(out, ' ', gutter.columns)?;
     out.try_push_str(" ")?;
@@ -67,6 +70,7 @@ fn put_help_row(out: &mut String, gutter: Gutter, text: &str) -> Result<(), Allo
 }
 
 /// Adds a help and its edits.
+#[inline(never)]
 fn put_help(out: &mut String, frame: &Frame<'_>, help: &SourceHelp<'_>) -> Result<(), AllocError> {
     if help.edits.is_empty() {
         put_help_row(out, frame.gutter, help.text)?;

@@ -33,6 +33,7 @@ pub fn last_edit_line(last: usize, edits: &[Edit<'_>]) -> usize {
 }
 
 /// Returns the lower of two indents, of which a blank line has none.
+#[inline(never)]
 fn lower_indent(m: Option<usize>, n: Option<usize>) -> Option<usize> {
     match (m, n) {
         (None, n) => n,
@@ -43,6 +44,7 @@ fn lower_indent(m: Option<usize>, n: Option<usize>) -> Option<usize> {
 
 /// Returns the lowest indent of the lines in which labels begin and end, or `None` if these are
 /// blank.
+#[inline(never)]
 fn lowest_of_labels(picture: &Picture<'_>, labels: &[Label<'_>]) -> Option<usize> {
     let mut least = None;
     for label in labels {
@@ -137,6 +139,7 @@ fn put_gap_after(
 }
 
 /// Adds a line and the rows under it.
+#[inline(never)]
 fn put_line_rows(
     out: &mut String,
     frame: &Frame<'_>,
@@ -159,6 +162,7 @@ fn is_drawn(previous: Option<usize>, number: usize) -> bool {
 }
 
 /// Adds a line with labels, unless it was drawn before.
+#[inline(never)]
 fn put_next_line(
     out: &mut String,
     frame: &Frame<'_>,
@@ -175,6 +179,7 @@ fn put_next_line(
 }
 
 /// Adds the lines of labels, which are in the order in which they are drawn.
+#[inline(never)]
 fn put_marked_lines(
     out: &mut String,
     frame: &Frame<'_>,
@@ -200,6 +205,7 @@ fn put_each_in_line(
 }
 
 /// Adds the lines of a label that is alone.
+#[inline(never)]
 fn put_single_label(
     out: &mut String,
     frame: &Frame<'_>,

@@ -1,18 +1,13 @@
-//! The faults of a string literal for the one who wrote it: [`draw`] draws a fault under its
-//! source, as rustc does, and [`draw_labels`] a diagnostic with any number of labels.
+//! Diagnostics for the one who wrote a source: [`draw_labels`] draws one under its source, as rustc
+//! does, and [`draw`] an error of the parser.
 
 // Extracted from crates/drawn_faults/src/lib.rt by tools/extract: not to be edited.
 // That source has the contracts, and is proved. That this text means the same is only tested.
 
-#[cfg(feature = "programs")]
 pub(crate) mod diagnostics;
 pub(crate) mod drawing;
-#[cfg(feature = "programs")]
 pub(crate) mod helps;
-pub(crate) mod labels;
-#[cfg(feature = "programs")]
 pub(crate) mod marked;
-#[cfg(feature = "programs")]
 pub(crate) mod notes;
 
 #[cfg(feature = "programs")]

@@ -4,13 +4,14 @@
 // Extracted from crates/drawn_faults/src/notes.rt by tools/extract: not to be edited.
 // That source has the contracts, and is proved. That this text means the same is only tested.
 
-use crate::proved::drawn_faults::drawing::{put_arrow, put_note_word};
 use crate::proved::drawn_faults::marked::{first_spot, frame_of, last_label_line, put_labels_rows};
 use crate::proved::drawn_labels::Label;
 use crate::proved::drawn_lines::{
-    extent_of, glyph, glyph_count, palette_of, put_closing, put_glyphs, put_opening,
-    put_painted_text, put_parting, put_run, split_first, Frame, Gutter, Palette, Picture, Style,
+    extent_of, glyph, glyph_count, palette_of, put_closing, put_decimal, put_glyphs, put_note_sign,
+    put_opening, put_painted_text, put_parting, put_run, split_first, Frame, Gutter, Palette,
+    Picture, Spot, Style,
 };
+use crate::proved::shown_text::{put_shown, Kind};
 use crate::shim::alloc::AllocError;
 use crate::shim::prelude::*;
 use core::ops::Range;
@@ -25,6 +26,7 @@ pub struct SourceNote<'a> {
 }
 
 /// Returns labels of ranges that a note shows.
+#[inline(never)]
 fn shown_labels(
     picture: &Picture<'_>,
     spans: &[Range<usize>],
@@ -41,6 +43,7 @@ fn shown_labels(
 }
 
 /// Returns the last line that notes show, or `last` if that is further down.
+#[inline(never)]
 pub fn last_note_line(
     picture: &Picture<'_>,
     last: usize,
@@ -54,7 +57,24 @@ pub fn last_note_line(
     Ok(line)
 }
 
+/// Adds where the text is that a diagnostic is about.
+#[inline(never)]
+fn put_arrow(out: &mut String, frame: &Frame<'_>, at: Spot) -> Result<(), AllocError> {
+    let line = frame.picture.line_start as usize + at.line;
+    let column = at.chars + 1;
+    put_run(out, ' ', frame.gutter.columns)?;
+    put_painted_text(out, frame.gutter.palette, Style::Secondary, "--> ")?;
+    put_shown(out, Kind::Line, frame.picture.path)?;
+    out.try_push_str(":")?;
+    put_decimal(out, line)?;
+    out.try_push_str(":")?;
+    put_decimal(out, column)?;
+    out.try_push_str("\n")?;
+    Ok(())
+}
+
 /// Adds a title, in these colours, after a word, and labels under it.
+#[inline(never)]
 pub fn put_titled_labels(
     out: &mut String,
     frame: &Frame<'_>,
@@ -84,14 +104,32 @@ fn put_margin(out: &mut String, gutter: Gutter, c: char) -> Result<(), AllocErro
     Ok(())
 }
 
-/// Adds a text whose lines but the first one begin with a margin.
-pub fn put_indented_text(out: &mut String, gutter: Gutter, text: &str) -> Result<(), AllocError> {
+/// Adds a text of several lines, of which all but the first one begin with a margin.
+#[inline(never)]
+fn put_note_lines(out: &mut String, gutter: Gutter, text: &str) -> Result<(), AllocError> {
     let mut rest = text;
     while let Some((c, tail)) = split_first(rest) {
         put_run(out, glyph(c), glyph_count(c))?;
         put_margin(out, gutter, c)?;
         rest = tail;
     }
+    Ok(())
+}
+
+/// Adds a text whose lines but the first one begin with a margin.
+pub fn put_indented_text(out: &mut String, gutter: Gutter, text: &str) -> Result<(), AllocError> {
+    if text.contains('\n') {
+        put_note_lines(out, gutter, text)?;
+    } else {
+        put_glyphs(out, text, 0)?;
+    }
+    Ok(())
+}
+
+/// Adds the start of a note.
+fn put_note_word(out: &mut String, gutter: Gutter) -> Result<(), AllocError> {
+    put_run(out, ' ', gutter.columns)?;
+    put_note_sign(out, gutter.palette)?;
     Ok(())
 }
 
@@ -104,6 +142,7 @@ fn put_plain_note(out: &mut String, gutter: Gutter, text: &str) -> Result<(), Al
 }
 
 /// Adds a note with labels for what it shows.
+#[inline(never)]
 fn put_shown_note(
     out: &mut String,
     picture: &Picture<'_>,
@@ -124,6 +163,7 @@ fn put_shown_note(
 }
 
 /// Adds notes.
+#[inline(never)]
 pub fn put_notes(
     out: &mut String,
     picture: &Picture<'_>,

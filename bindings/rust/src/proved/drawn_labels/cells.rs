@@ -40,7 +40,7 @@ pub fn text_style(mark: &Mark<'_>) -> Style {
 
 /// Returns a space.
 #[inline]
-pub fn space() -> Cell {
+fn space() -> Cell {
     Cell {
         character: ' ',
         style: Style::Plain,

@@ -15,6 +15,9 @@ use crate::proved::drawn_lines::{put_gutter, Gutter};
 use crate::shim::alloc::AllocError;
 use crate::shim::prelude::*;
 
+/// How many columns most rows have at most.
+const ROOM: usize = 128;
+
 /// Puts the text of a label that stands right of its signs into a row.
 fn put_side_text(row: &mut Vec<Cell>, label: &HungLabel<'_>) -> Result<(), AllocError> {
     let mark = &label.mark;
@@ -51,7 +54,7 @@ fn put_signs(row: &mut Vec<Cell>, marks: &[Mark<'_>]) -> Result<(), AllocError> 
 
 /// Returns the row of signs of labels, with the texts right of them.
 fn sign_row(marks: &[Mark<'_>], labels: &[HungLabel<'_>]) -> Result<Vec<Cell>, AllocError> {
-    let mut row = Vec::new();
+    let mut row = Vec::made_for(ROOM)?;
     put_side_texts(&mut row, labels)?;
     let covered_marks = covered_first(marks)?;
     put_signs(&mut row, &covered_marks)?;
@@ -99,7 +102,7 @@ fn put_hung_texts(
 
 /// Returns the row with `n` rows between it and the signs.
 fn hung_row(n: usize, labels: &[HungLabel<'_>]) -> Result<Vec<Cell>, AllocError> {
-    let mut row = Vec::new();
+    let mut row = Vec::made_for(ROOM)?;
     put_bars(&mut row, n, labels)?;
     put_hung_texts(&mut row, n, labels)?;
     Ok(row)

@@ -27,9 +27,7 @@ pub use paint::{
     has_colours, palette_of, put_change, put_closing, put_note_sign, put_opening, put_painted_text,
     put_reset, put_sign, rank, Gutter, Palette, Style,
 };
-#[cfg(feature = "programs")]
-pub use places::ORIGIN;
-pub use places::{after_lines, extent_of, line, offsets, split_line, Picture, WIDTH};
+pub use places::{after_lines, extent_of, line, offsets, split_line, Picture, ORIGIN, WIDTH};
 #[cfg(feature = "programs")]
 pub use printable::{is_drawn_as_is, is_non_ascii_drawn_as_is};
 pub use window::{columns, shift, Window};

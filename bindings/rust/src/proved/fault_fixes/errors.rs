@@ -17,6 +17,7 @@ struct Errors {
 }
 
 /// Adds the errors of faults.
+#[inline(never)]
 fn add_each(errors: &mut Errors, faults: &[Fault<'_>]) -> Result<(), AllocError> {
     for fault in faults {
         let error = fault.error()?;
@@ -55,6 +56,7 @@ fn into_list(errors: Errors) -> Result<Vec<ParseError>, AllocError> {
 /// Returns the errors of all calls of a parser up to the end of an input, in its order. The
 /// arguments are those of [`Parser::new`]. The time grows with the input, whereas a parser moves
 /// all errors that it has where one is put before them.
+#[inline(never)]
 pub fn errors_of(
     input: &str,
     style: Option<usize>,

@@ -40,6 +40,7 @@ pub fn is_offered(mode: ParseMode, suggestion: &Suggestion) -> bool {
 }
 
 /// Returns the edit of a suggestion, or `None` if it has none or needs the arguments of the call.
+#[inline(never)]
 fn edit_of(suggestion: &Suggestion) -> Option<Edit<'_>> {
     match suggestion {
         Suggestion::RemoveRawIdent(span) => Some(Edit {
@@ -78,6 +79,7 @@ fn offered_edit(mode: ParseMode, suggestion: &Suggestion) -> Option<Edit<'_>> {
 ///
 /// The errors are in the order of a parser, in which each error that has an edit comes before those
 /// of earlier places. An edit that does not start after the end of the one before it is left out.
+#[inline(never)]
 pub fn edits<'e>(mode: ParseMode, errors: &'e [ParseError]) -> Result<Vec<Edit<'e>>, AllocError> {
     let mut edits = Vec::new();
     let mut end = 0;
@@ -118,6 +120,7 @@ struct EditProgress<'t> {
 
 /// Makes the edit of a suggestion in a mode, if it has one that starts after the end of the last
 /// one.
+#[inline(never)]
 fn make(
     progress: &mut EditProgress<'_>,
     mode: ParseMode,
@@ -178,6 +181,7 @@ struct AllEdits {
 
 /// Returns a text with the edits, in a mode, of all errors that the calls of a parser find, which
 /// has none yet. The text starts at the byte offset `at`.
+#[inline(never)]
 fn edit_all(
     mode: ParseMode,
     parser: &mut Parser<'_>,
@@ -211,6 +215,7 @@ fn text_of(bytes: Vec<u8>) -> Option<String> {
 
 /// Returns the literal of an input with the edits of its errors, or `None` if it has none or is
 /// then not UTF-8.
+#[inline(never)]
 fn edited_literal(
     input: &str,
     style: Option<usize>,
@@ -228,6 +233,7 @@ fn edited_literal(
 }
 
 /// Returns an input with the edits of its errors, or `None` if it is then not UTF-8.
+#[inline(never)]
 fn edited_text(input: &str, mode: ParseMode) -> Result<Option<String>, AllocError> {
     let mut parser = Parser::new(input, None, None, false, mode)?;
     let AllEdits { bytes, .. } = edit_all(mode, &mut parser, input, 1)?;
@@ -240,6 +246,7 @@ fn edited_text(input: &str, mode: ParseMode) -> Result<Option<String>, AllocErro
 /// Returns `None` if the snippet is not the source literal of the input, so that no edit is made in
 /// a foreign literal, if there is no edit, or if the literal with its edits would not stand for the
 /// text with its own.
+#[inline(never)]
 pub fn round(
     input: &str,
     style: Option<usize>,

@@ -22,6 +22,7 @@ struct Faults<'a> {
 
 /// Returns the faults of a text. Returns `Err` if an allocation fails, or if the text has 2^59
 /// bytes or more.
+#[inline(never)]
 fn faults_of(text: &str, mode: ParseMode) -> Result<Faults<'_>, AllocError> {
     if text.len() >= 1 << (usize::BITS - 5) {
         return crate::shim::alloc::refuse();
@@ -41,6 +42,7 @@ fn faults_of(text: &str, mode: ParseMode) -> Result<Faults<'_>, AllocError> {
 }
 
 /// Returns whether faults are some of others, in their order, by their kinds alone.
+#[inline(never)]
 fn is_part(part: &[Fault<'_>], all_faults: &[Fault<'_>]) -> bool {
     let mut count = 0;
     for fault in all_faults {
@@ -56,6 +58,7 @@ fn is_part(part: &[Fault<'_>], all_faults: &[Fault<'_>]) -> bool {
 
 /// Returns how many calls over a text find a fault, or `None` if not all of these faults are old
 /// ones, in their order. Returns `Err` as `faults_of` does.
+#[inline(never)]
 fn count_left(old: &[Fault<'_>], text: &str, mode: ParseMode) -> Result<Option<usize>, AllocError> {
     let faults = faults_of(text, mode)?;
     if is_part(faults.list.as_slice(), old) {
@@ -86,6 +89,7 @@ fn offer(best: &mut Best, literal: FixedLiteral, calls: Option<usize>) {
 
 /// Returns what one more round of edits makes of a literal, or `None` if there is no edit. Returns
 /// `Err` if an allocation fails, or if the literal or its text has 2^59 bytes or more.
+#[inline(never)]
 fn next_round(
     literal: &FixedLiteral,
     style: Option<usize>,
@@ -117,6 +121,7 @@ fn next_round(
 /// literal. The arguments are those of [`Parser::new`]: the number of hashes, the byte length of
 /// the input and 2 must add up to less than 2^64. Returns `Err` if an allocation fails, or if there
 /// is an edit and a literal or its text has 2^59 bytes or more.
+#[inline(never)]
 pub fn fix(
     input: &str,
     style: Option<usize>,

@@ -8,6 +8,7 @@ use crate::shim::alloc::AllocError;
 use crate::shim::prelude::*;
 
 /// Appends a line that says which example follows, and the example.
+#[inline(never)]
 fn put_example(out: &mut String, heading: &str, example: &str) -> Result<(), AllocError> {
     out.try_push_str("\n")?;
     out.try_push_str(heading)?;
@@ -19,6 +20,7 @@ fn put_example(out: &mut String, heading: &str, example: &str) -> Result<(), All
 
 /// Appends the text of a rule: its id and its summary, its explanation, and the example with and
 /// without the fault.
+#[inline(never)]
 pub fn put_explanation(out: &mut String, rule: &Rule) -> Result<(), AllocError> {
     out.try_push_str(rule.id)?;
     out.try_push_str(": ")?;

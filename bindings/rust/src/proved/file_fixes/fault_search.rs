@@ -15,6 +15,7 @@ fn is_alike(old: &Finding, new: &Finding) -> bool {
 
 /// Returns the index after that of the first fault, from the index `from` on, with the id and title
 /// of this one, or `None` if there is none.
+#[inline(never)]
 fn index_after(finding: &Finding, faults: &[Finding], from: usize) -> Option<usize> {
     let mut index = from;
     while let Some(fault) = faults.get(index) {
@@ -28,6 +29,7 @@ fn index_after(finding: &Finding, faults: &[Finding], from: usize) -> Option<usi
 
 /// Returns where the last edit of a fault ends, or `None` if the fault is not mended. The last edit
 /// before these ends at `at`.
+#[inline(never)]
 fn mended_end(at: usize, finding: &Finding) -> Result<Option<usize>, AllocError> {
     let edits = edits_of(finding)?;
     if edits.is_empty() || !are_after(at, edits.as_slice()) {
@@ -38,6 +40,7 @@ fn mended_end(at: usize, finding: &Finding) -> Result<Option<usize>, AllocError>
 
 /// Returns whether the faults that a round does not mend are among the faults after it, in their
 /// order.
+#[inline(never)]
 pub(crate) fn keeps_unmended(old: &[Finding], new: &[Finding]) -> Result<bool, AllocError> {
     let mut at = 0;
     let mut index = 0;

@@ -29,6 +29,7 @@ struct PartsAhead {
 }
 
 /// Returns the parts of a text that edits remove from it.
+#[inline(never)]
 fn old_parts(edits: &[Edit<'_>]) -> Result<Vec<EditedPart>, AllocError> {
     let mut parts = Vec::new();
     let mut end = 0;
@@ -43,6 +44,7 @@ fn old_parts(edits: &[Edit<'_>]) -> Result<Vec<EditedPart>, AllocError> {
 }
 
 /// Returns the parts of the edited text that edits put into it.
+#[inline(never)]
 fn new_parts(edits: &[Edit<'_>]) -> Result<Vec<EditedPart>, AllocError> {
     let mut parts = Vec::new();
     let mut end = 0;
@@ -62,6 +64,7 @@ fn ends_by(at: usize, end: usize, part: EditedPart) -> bool {
 }
 
 /// Returns the place after the place `from` and after all parts that end by the offset `at`.
+#[inline(never)]
 fn place_after(at: usize, from: PartsAhead, parts: &[EditedPart]) -> PartsAhead {
     let mut place = from;
     while let Some(part) = parts.get(place.index) {
@@ -84,6 +87,7 @@ fn is_before(at: usize, place: PartsAhead, parts: &[EditedPart]) -> bool {
 }
 
 /// Returns a token, moved n bytes towards the start of the text.
+#[inline(never)]
 fn moved_token(n: usize, token: &Token) -> Token {
     Token {
         kind: token.kind,
@@ -95,6 +99,7 @@ fn moved_token(n: usize, token: &Token) -> Token {
 
 /// Returns those tokens of a text that no part touches, at the places that they have in the text
 /// without the parts.
+#[inline(never)]
 fn untouched_tokens(parts: &[EditedPart], tokens: &[Token]) -> Result<Vec<Token>, AllocError> {
     let mut others = Vec::new();
     let mut place = PartsAhead {
@@ -134,15 +139,19 @@ fn are_known(tokens: &[Token]) -> bool {
     true
 }
 
-/// Returns whether the tokens that no edit touches are the same in a text and in the edited text,
-/// of which all tokens are known.
-pub(crate) fn keeps_tokens(old: &str, edits: &[Edit<'_>], new: &str) -> Result<bool, AllocError> {
-    let old_tokens = tokens(old)?;
+/// Returns whether the tokens that no edit touches are the same in a text with these tokens and in
+/// the edited text, of which all tokens are known.
+#[inline(never)]
+pub(crate) fn keeps_tokens(
+    old: &[Token],
+    edits: &[Edit<'_>],
+    new: &str,
+) -> Result<bool, AllocError> {
     let new_tokens = tokens(new)?;
     if !are_known(new_tokens.as_slice()) {
         return Ok(false);
     }
-    let old_others = untouched_tokens(old_parts(edits)?.as_slice(), old_tokens.as_slice())?;
+    let old_others = untouched_tokens(old_parts(edits)?.as_slice(), old)?;
     let new_others = untouched_tokens(new_parts(edits)?.as_slice(), new_tokens.as_slice())?;
     Ok(are_same(old_others.as_slice(), new_others.as_slice()))
 }

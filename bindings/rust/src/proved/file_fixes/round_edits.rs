@@ -19,6 +19,7 @@ pub(crate) fn end_after(at: usize, edits: &[Edit<'_>]) -> usize {
 
 /// Adds the edits of a fault if it is mended. The last edit before them ends at `at`. Returns where
 /// the last edit ends now, or `Err` if an allocation fails.
+#[inline(never)]
 fn add_edits<'f>(
     all: &mut Vec<Edit<'f>>,
     at: usize,
@@ -34,6 +35,7 @@ fn add_edits<'f>(
 }
 
 /// Returns the edits of the faults that are mended in one round.
+#[inline(never)]
 pub(crate) fn round_edits<'f>(findings: &'f [Finding]) -> Result<Vec<Edit<'f>>, AllocError> {
     let mut all = Vec::new();
     let mut at = 0;

@@ -7,6 +7,7 @@ use crate::proved::asm_lint::{appends_newline, read_literal};
 use crate::proved::call_faults::FormatString;
 use crate::proved::file_inlines::edits::edits_of;
 use crate::proved::file_inlines::sources::with_sources;
+use crate::proved::file_inlines::terms::{is_inlined, Terms};
 use crate::proved::format_calls::{
     arguments, extent_of, is_standard, token_at, Argument, Call, Part, Rule,
 };
@@ -32,6 +33,9 @@ pub enum CallInlining {
     Unread(CallReading),
     /// It is left as it is, since it is one of assembly, whose templates capture no variables.
     Assembly,
+    /// It is left as it is, although it could be inlined, since its macro may be another one than
+    /// that of its row.
+    Uncertain,
 }
 
 /// A call with what inlining makes of it.
@@ -82,6 +86,7 @@ struct LiteralSite<'s, 'a> {
 }
 
 /// Returns what inlining makes of this call, which `site` is in its file.
+#[inline(never)]
 fn inline_format_call(
     site: LiteralSite<'_, '_>,
     call: FormatCall<'_>,
@@ -120,6 +125,7 @@ fn unchanged_call(reason: CallInlining) -> InlinedCall {
 
 /// Returns what inlining makes of a call of a macro with this rule and this name, whose arguments
 /// are all or not.
+#[inline(never)]
 fn inline_site(
     site: LiteralSite<'_, '_>,
     rule: Rule,
@@ -154,6 +160,7 @@ fn inline_site(
 }
 
 /// Returns what inlining makes of a call whose format string begins the argument of this index.
+#[inline(never)]
 fn inline_at(
     file: File<'_, '_>,
     part: &Part<'_>,
@@ -196,6 +203,7 @@ fn inline_at(
 
 /// Returns what inlining makes of a call whose format string is the argument of this index, or
 /// whose templates begin with it.
+#[inline(never)]
 fn inline_one(
     file: File<'_, '_>,
     part: &Part<'_>,
@@ -213,6 +221,7 @@ fn inline_one(
 }
 
 /// Returns whether the format string of a call of a macro with this rule was not read.
+#[inline(never)]
 fn is_unread(rule: Rule, reading: CallReading) -> bool {
     match rule {
         Rule::Templates => false,
@@ -223,6 +232,7 @@ fn is_unread(rule: Rule, reading: CallReading) -> bool {
 }
 
 /// Returns what inlining makes of a call that has this reading.
+#[inline(never)]
 fn inline_call<'a>(
     file: File<'_, 'a>,
     part: &Part<'a>,
@@ -246,15 +256,35 @@ fn inline_call<'a>(
     }
 }
 
+/// Returns what inlining makes of a call that has this reading, on these terms.
+#[inline(never)]
+fn inline_on<'a>(
+    file: File<'_, 'a>,
+    part: &Part<'a>,
+    call: &Call,
+    reading: CallReading,
+    terms: Terms<'_>,
+) -> Result<InlinedCall, AllocError> {
+    let inlined_call = inline_call(file, part, call, reading, terms.allows_mixed)?;
+    if !is_inlined(inlined_call.inlining) {
+        return Ok(inlined_call);
+    }
+    match terms.reason(name_at(part.tokens(), call.name)) {
+        Some(reason) => Ok(unchanged_call(reason)),
+        None => Ok(inlined_call),
+    }
+}
+
 /// Adds what inlining makes of calls of a part of a file that have these readings, one after the
-/// other.
+/// other, on these terms.
+#[inline(never)]
 pub(crate) fn inline_calls<'a>(
     results: &mut InlinedCalls,
     file: File<'_, 'a>,
     part: &Part<'a>,
     calls: &[Call],
     readings: &[CallReading],
-    allows_mixed: bool,
+    terms: Terms<'_>,
 ) -> Result<(), AllocError> {
     let mut rest = calls;
     let mut rest_readings = readings;
@@ -262,7 +292,7 @@ pub(crate) fn inline_calls<'a>(
         let Some((reading, more)) = rest_readings.split_first() else {
             return Ok(());
         };
-        let mut one = inline_call(file, part, call, *reading, allows_mixed)?;
+        let mut one = inline_on(file, part, call, *reading, terms)?;
         results.inlinings.try_push(one.inlining)?;
         results.edits.try_append(&mut one.edits)?;
         rest = others;

@@ -14,6 +14,7 @@ use crate::shim::prelude::*;
 
 /// Returns the edits of a literal with lines that end with LF as edits of its token, which has
 /// these CRs more.
+#[inline(never)]
 fn token_edits(crs: &[usize], edits: &[Edit]) -> Result<Vec<Edit>, AllocError> {
     let mut list = Vec::new();
     for edit in edits {
@@ -25,33 +26,23 @@ fn token_edits(crs: &[usize], edits: &[Edit]) -> Result<Vec<Edit>, AllocError> {
     Ok(list)
 }
 
-/// Returns an edit that stands some bytes further on, or `None` if an offset is too large.
-fn move_edit(edit: &Edit, offset: usize) -> Result<Option<Edit>, AllocError> {
-    let (Some(start), Some(end)) = (
-        offset.checked_add(edit.span.start),
-        offset.checked_add(edit.span.end),
-    ) else {
-        return Ok(None);
-    };
-    Ok(Some(Edit {
-        span: start..end,
-        text: String::made_from(edit.text.as_str())?,
-    }))
-}
-
-/// Returns edits that stand some bytes further on, or `None` if an offset is too large.
-fn move_edits(edits: &[Edit], offset: usize) -> Result<Option<Vec<Edit>>, AllocError> {
+/// Returns edits that stand some bytes further on.
+#[inline(never)]
+fn move_edits(edits: &[Edit], offset: usize) -> Result<Vec<Edit>, AllocError> {
     let mut list = Vec::new();
     for edit in edits {
-        let Some(edit) = move_edit(edit, offset)? else {
-            return Ok(None);
-        };
-        list.try_push(edit)?;
+        let start = offset.saturating_add(edit.span.start);
+        let end = offset.saturating_add(edit.span.end);
+        list.try_push(Edit {
+            span: start..end,
+            text: String::made_from(edit.text.as_str())?,
+        })?;
     }
-    Ok(Some(list))
+    Ok(list)
 }
 
 /// Adds the edits that remove the arguments of these indices, with their source.
+#[inline(never)]
 fn push_removals(
     edits: &mut Vec<Edit>,
     text: &str,
@@ -76,25 +67,37 @@ fn is_literal(token: &str, literal: &str) -> Result<bool, AllocError> {
     Ok(text.as_str() == literal)
 }
 
+/// Returns whether a token with these edits is the new literal, up to the CR before each LF.
+#[inline(never)]
+fn make_literal(
+    literal: Token<'_>,
+    inlining: &InlinedCall,
+    edits: &[Edit],
+) -> Result<bool, AllocError> {
+    match apply_edits(literal.text, edits)? {
+        Some(new) => is_literal(new.as_str(), inlining.literal.as_str()),
+        None => Ok(false),
+    }
+}
+
 /// Returns the edits of the literal that a token is, as edits of its file, or `None` if the token
 /// with them is not the new literal.
+#[inline(never)]
 fn literal_edits(
     literal: Token<'_>,
     inlining: &InlinedCall,
 ) -> Result<Option<Vec<Edit>>, AllocError> {
     let crs = dropped_crs(literal.text)?;
     let inside_edits = token_edits(&crs, inlining.edits.as_slice())?;
-    let Some(new) = apply_edits(literal.text, &inside_edits)? else {
-        return Ok(None);
-    };
-    if !is_literal(new.as_str(), inlining.literal.as_str())? {
+    if !make_literal(literal, inlining, &inside_edits)? {
         return Ok(None);
     }
-    move_edits(inside_edits.as_slice(), literal.start)
+    Ok(Some(move_edits(&inside_edits, literal.start)?))
 }
 
 /// Returns the edits that inline a call, with this token as its literal and these arguments after
 /// it, or `None` if the token with its edits is not the new literal.
+#[inline(never)]
 pub(crate) fn edits_of(
     text: &str,
     tokens: &[Token<'_>],

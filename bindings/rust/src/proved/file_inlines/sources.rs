@@ -12,6 +12,7 @@ use crate::shim::prelude::*;
 use core::ops::Range;
 
 /// Returns the offset at which the token of an index ends in its file, or 0 if there is none.
+#[inline(never)]
 fn end_at(text: &str, tokens: &[Token<'_>], index: usize) -> usize {
     match token_at(tokens, index) {
         Some(token) => text.len().min(token.start.saturating_add(token.text.len())),
@@ -21,6 +22,7 @@ fn end_at(text: &str, tokens: &[Token<'_>], index: usize) -> usize {
 
 /// Returns the bytes of a file that go with an argument: from the end of the token before its comma
 /// to its own end.
+#[inline(never)]
 pub(crate) fn removal_range(text: &str, tokens: &[Token<'_>], argument: &Argument) -> Range<usize> {
     let start = end_at(text, tokens, argument.start.saturating_sub(2));
     let end = end_at(text, tokens, argument.end.saturating_sub(1));
@@ -28,6 +30,7 @@ pub(crate) fn removal_range(text: &str, tokens: &[Token<'_>], argument: &Argumen
 }
 
 /// Returns the bytes of a text in a range, or those of it that there are.
+#[inline(never)]
 fn bytes_in<'a>(text: &'a str, range: &Range<usize>) -> &'a [u8] {
     let rest = text.as_bytes().get(range.start..).unwrap_or(&[]);
     rest.get(..range.end.saturating_sub(range.start))
@@ -35,6 +38,7 @@ fn bytes_in<'a>(text: &'a str, range: &Range<usize>) -> &'a [u8] {
 }
 
 /// Returns the value of an argument if that is one word.
+#[inline(never)]
 fn word_of<'a>(tokens: &[Token<'a>], argument: &Argument) -> Option<&'a str> {
     let count = if argument.is_named { 3 } else { 1 };
     if argument.end.saturating_sub(argument.start) != count {
@@ -53,6 +57,7 @@ fn word_of<'a>(tokens: &[Token<'a>], argument: &Argument) -> Option<&'a str> {
 }
 
 /// Returns an argument of a call with its source.
+#[inline(never)]
 fn with_source<'a>(text: &'a str, tokens: &[Token<'a>], argument: &Argument) -> FormatArgument<'a> {
     let range = removal_range(text, tokens, argument);
     FormatArgument {

@@ -32,6 +32,7 @@ struct Excerpt<'a> {
 }
 
 /// Returns the smallest range that has two others.
+#[inline(never)]
 fn join_ranges(one: &Range<usize>, other: &Range<usize>) -> Range<usize> {
     let start = if one.start < other.start {
         one.start
@@ -47,6 +48,7 @@ fn join_ranges(one: &Range<usize>, other: &Range<usize>) -> Range<usize> {
 }
 
 /// Returns the smallest range of a file that has all ranges of a finding.
+#[inline(never)]
 fn extent(finding: &Finding) -> Range<usize> {
     let mut extent = finding.span.start..finding.span.end;
     for label in &finding.labels {
@@ -67,6 +69,7 @@ fn extent(finding: &Finding) -> Range<usize> {
 
 /// Returns the byte offset at which the line of an offset starts, after a byte order mark at the
 /// start of the file.
+#[inline(never)]
 fn line_start(text: &str, offset: usize) -> usize {
     let (front, _) = text.split_at(text.boundary_at_most(offset));
     match front.rsplit_once('\n') {
@@ -77,6 +80,7 @@ fn line_start(text: &str, offset: usize) -> usize {
 
 /// Returns the byte offset at which the line of an offset ends, without its line end, or `None` if
 /// that is too far.
+#[inline(never)]
 fn line_end(text: &str, offset: usize) -> Option<usize> {
     let (_, rest) = text.split_at(text.boundary_at_most(offset));
     let (window, remainder) = rest.split_at(rest.boundary_at_most(MOST + 2));
@@ -89,6 +93,7 @@ fn line_end(text: &str, offset: usize) -> Option<usize> {
 }
 
 /// Returns the lines of a range of a file, or `None` if they are too long for a drawing.
+#[inline(never)]
 fn excerpt_of<'a>(
     file: &File<'a>,
     range: &Range<usize>,
@@ -126,6 +131,7 @@ fn excerpt_of<'a>(
 
 impl<'a> Excerpt<'a> {
     /// Returns the byte offset in the source of an offset of the file.
+    #[inline(never)]
     fn offset(&self, offset: usize) -> usize {
         let at = offset.saturating_sub(self.start);
         let (front, _) = self.lines.split_at(self.lines.boundary_at_most(at));
@@ -145,6 +151,7 @@ impl<'a> Excerpt<'a> {
     }
 
     /// Returns the labels of a finding.
+    #[inline(never)]
     fn labels<'f>(&self, finding: &'f Finding) -> Result<Vec<SourceLabel<'f>>, AllocError> {
         let mut labels = Vec::new();
         for label in &finding.labels {
@@ -158,6 +165,7 @@ impl<'a> Excerpt<'a> {
     }
 
     /// Returns the ranges of the notes of a finding.
+    #[inline(never)]
     fn note_ranges(&self, finding: &Finding) -> Result<Vec<Vec<Range<usize>>>, AllocError> {
         let mut all = Vec::new();
         for note in &finding.notes {
@@ -171,6 +179,7 @@ impl<'a> Excerpt<'a> {
     }
 
     /// Returns the edits of the help of a finding with these texts, or none.
+    #[inline(never)]
     fn edits<'f>(
         &self,
         finding: &Finding,
@@ -190,6 +199,7 @@ impl<'a> Excerpt<'a> {
 }
 
 /// Returns a text with LF for CRLF.
+#[inline(never)]
 fn with_line_feeds(text: &str) -> Result<String, AllocError> {
     let mut out = String::new();
     let mut is_first = true;
@@ -204,6 +214,7 @@ fn with_line_feeds(text: &str) -> Result<String, AllocError> {
 }
 
 /// Returns the new texts of the help of a finding, with LF for CRLF, or none.
+#[inline(never)]
 fn edit_texts(finding: &Finding) -> Result<Vec<String>, AllocError> {
     let mut texts = Vec::new();
     if let Some(help) = &finding.help {
@@ -215,6 +226,7 @@ fn edit_texts(finding: &Finding) -> Result<Vec<String>, AllocError> {
 }
 
 /// Returns the notes of a finding, with these ranges.
+#[inline(never)]
 fn notes<'f>(
     finding: &'f Finding,
     ranges: &'f [Vec<Range<usize>>],
@@ -230,6 +242,7 @@ fn notes<'f>(
 }
 
 /// Returns the help of a finding, with these edits, or none.
+#[inline(never)]
 fn helps<'f>(
     finding: &'f Finding,
     edits: &'f [Edit<'f>],
@@ -255,6 +268,7 @@ fn level(finding: &Finding) -> Level {
 }
 
 /// Appends the drawing of a finding under these lines.
+#[inline(never)]
 fn put_drawn<'x>(
     out: &mut String,
     colours: bool,
@@ -289,6 +303,7 @@ fn put_drawn<'x>(
 
 /// Appends the drawing of a finding, maybe in colours, and returns whether there is one: none is
 /// made of more than 20 labels, of more than 4,096 bytes, or of a line with more than that.
+#[inline(never)]
 pub fn put_drawing(
     out: &mut String,
     colours: bool,

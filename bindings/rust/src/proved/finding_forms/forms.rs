@@ -31,6 +31,7 @@ const TRAITS: usize = 9;
 
 /// Returns a suggestion that is in no drawing: to write a trait that is known, of which this is the
 /// number, where another one stands. Returns `None` for other faults and numbers.
+#[inline(never)]
 fn trait_suggestion(id: &str, number: usize) -> Option<LabelSuggestion> {
     let (advice, text) = match number {
         0 => ("use the `Display` trait", ""),
@@ -56,6 +57,7 @@ fn trait_suggestion(id: &str, number: usize) -> Option<LabelSuggestion> {
 
 /// Returns the lines of a text around a range, without the last LF and a byte order mark at the
 /// start of the text, or `None` if they have more bytes than a drawing is about.
+#[inline(never)]
 fn lines_around(text: &str, start: usize, end: usize) -> Option<&str> {
     let window_start = text.boundary_at_most(start.saturating_sub(MOST + 1));
     let line_start = match text.get(window_start..start)?.rsplit_once('\n') {
@@ -78,6 +80,7 @@ fn lines_around(text: &str, start: usize, end: usize) -> Option<&str> {
 }
 
 /// Returns a range of a file as messages have it, without its lines, a label or a suggestion.
+#[inline(never)]
 fn span_of<'a>(file: &File<'a>, range: &Range<usize>) -> Span<'a> {
     let byte_start = file.text.boundary_at_most(range.start);
     let byte_end = file.text.boundary_at_most(range.end);
@@ -112,6 +115,7 @@ fn level_of(finding: &Finding) -> Level {
 
 /// Returns the labels of a finding as ranges of its message. One that is a suggestion is a child of
 /// the message, and no label.
+#[inline(never)]
 fn label_spans<'a>(file: &File<'a>, finding: &'a Finding) -> Result<Vec<Span<'a>>, AllocError> {
     let mut spans = Vec::new();
     let mut has_primary = false;
@@ -138,6 +142,7 @@ fn is_sure(id: &str) -> bool {
 }
 
 /// Returns the edits of a help as ranges of its message.
+#[inline(never)]
 fn edit_spans<'a>(
     file: &File<'a>,
     help: &'a Help,
@@ -156,6 +161,7 @@ fn edit_spans<'a>(
 }
 
 /// Returns the range of a suggestion that is drawn as a label.
+#[inline(never)]
 fn suggestion_spans<'a>(
     file: &File<'a>,
     range: &Range<usize>,
@@ -173,6 +179,7 @@ fn suggestion_spans<'a>(
 
 /// Returns the ranges of the notes of a finding, then those of its suggestions that are not drawn,
 /// of those among its labels, and of its help.
+#[inline(never)]
 fn child_spans<'a>(
     file: &File<'a>,
     finding: &'a Finding,
@@ -203,6 +210,7 @@ fn child_spans<'a>(
 
 /// Returns the notes of a finding, its suggestions that are not drawn, those among its labels and
 /// its help, with these ranges.
+#[inline(never)]
 fn children<'a, 's>(
     finding: &'a Finding,
     ranges: &'s [Vec<Span<'a>>],
@@ -266,6 +274,7 @@ fn put_human(
 }
 
 /// Appends a message as a line of JSON, with a drawing of this width.
+#[inline(never)]
 fn put_line<'a>(
     out: &mut String,
     width: usize,
@@ -288,6 +297,7 @@ fn put_line<'a>(
 }
 
 /// Appends a finding in a form.
+#[inline(never)]
 pub fn put_finding<'a>(
     out: &mut String,
     form: Form,

@@ -27,6 +27,7 @@ pub struct Source<'a> {
 
 /// Returns the faults of all calls of a parser without errors. Returns `Err` if an allocation
 /// fails, or if there are more faults than a `usize` counts.
+#[inline(never)]
 fn faults_of<'a>(parser: &mut Parser<'a>) -> Result<Findings<'a>, AllocError> {
     let mut argument = Argument::default();
     let mut list = Vec::new();
@@ -46,6 +47,7 @@ struct Labelled<'a> {
 
 /// Returns the labels of a source's text and its faults, by the calls of a parser at its start.
 /// Returns `Err` as `faults_of` does.
+#[inline(never)]
 fn labels_of<'a>(
     parser: &mut Parser<'a>,
     mode: ParseMode,
@@ -67,6 +69,7 @@ fn labels_of<'a>(
 }
 
 /// Returns a parser at the start of a source.
+#[inline(never)]
 fn parser_of<'a>(mode: ParseMode, source: Source<'a>) -> Result<Parser<'a>, AllocError> {
     let snippet = match source.literal {
         Some(literal) => Some(String::made_from(literal)?),
@@ -89,6 +92,7 @@ pub struct Tokens<'a> {
 }
 
 /// Returns the tokens of a source, and its faults. Returns `Err` as `faults_of` does.
+#[inline(never)]
 pub fn tokens_in<'a>(mode: ParseMode, source: Source<'a>) -> Result<Tokens<'a>, AllocError> {
     let mut parser = parser_of(mode, source)?;
     let Labelled { labels, faults } = labels_of(&mut parser, mode, source)?;

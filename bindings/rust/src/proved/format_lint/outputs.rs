@@ -28,6 +28,7 @@ pub struct Outputs {
 }
 
 /// Appends a line with the id of a fault, which says whether it follows from the one before.
+#[inline(never)]
 fn put_id(out: &mut String, finding: &Finding<'_>) -> Result<(), AllocError> {
     out.try_push_str(if finding.is_consequence {
         "follows: "
@@ -66,6 +67,7 @@ fn put_each_finding(
 }
 
 /// Appends a line that says how many faults are not drawn, if there are any.
+#[inline(never)]
 fn put_more_line(out: &mut String, count: usize) -> Result<(), AllocError> {
     if count == 0 {
         return Ok(());
@@ -91,6 +93,7 @@ fn put_first(
 /// Appends the drawing of the first fault to a text, or the drawings of those that are kept and the
 /// number of others. Returns how many faults are mistakes of their own, and `Err` if an allocation
 /// fails.
+#[inline(never)]
 fn put_drawings(
     out: &mut String,
     all: bool,
@@ -109,6 +112,7 @@ fn put_drawings(
 
 /// Appends the drawing of a source with these faults to a text. Returns how many of them are
 /// mistakes of their own, and `Err` if an allocation fails.
+#[inline(never)]
 fn put_faults(
     out: &mut String,
     all: bool,
@@ -128,6 +132,7 @@ fn put_faults(
 }
 
 /// Returns the drawing of a source as the output.
+#[inline(never)]
 fn drawn_output(all: bool, task: Task<'_>, source: Source<'_>) -> Result<Outputs, AllocError> {
     let faults = faults_in(task.mode, source)?;
     let mut output = String::new();
@@ -140,6 +145,7 @@ fn drawn_output(all: bool, task: Task<'_>, source: Source<'_>) -> Result<Outputs
 }
 
 /// Returns an output with the drawing of the first of a source's faults as the error output.
+#[inline(never)]
 fn with_drawing(
     output: String,
     task: Task<'_>,
@@ -156,6 +162,7 @@ fn with_drawing(
 }
 
 /// Returns a source as it is written and a line end, with the drawing of its first fault.
+#[inline(never)]
 fn kept_output(task: Task<'_>, source: Source<'_>) -> Result<Outputs, AllocError> {
     let mut output = String::new();
     output.try_push_str(source.literal.unwrap_or(source.text))?;
@@ -166,6 +173,7 @@ fn kept_output(task: Task<'_>, source: Source<'_>) -> Result<Outputs, AllocError
 
 /// Returns the literal of a source with the edits that its faults suggest, with the drawing of the
 /// first fault that it then has.
+#[inline(never)]
 fn fixed_output(task: Task<'_>, source: Source<'_>) -> Result<Outputs, AllocError> {
     let Some(literal) = source.literal else {
         return Ok(kept_output(task, source)?);
@@ -188,6 +196,7 @@ fn fixed_output(task: Task<'_>, source: Source<'_>) -> Result<Outputs, AllocErro
 
 /// Returns the tokens of a source, in colours with a line end after them or each in a line, with
 /// the drawing of its first fault.
+#[inline(never)]
 fn token_output(task: Task<'_>, source: Source<'_>) -> Result<Outputs, AllocError> {
     let source_text = source.literal.unwrap_or(source.text);
     let Tokens { tokens, faults } = tokens_in(task.mode, source)?;
@@ -200,6 +209,7 @@ fn token_output(task: Task<'_>, source: Source<'_>) -> Result<Outputs, AllocErro
 }
 
 /// Returns the result of a task for a source.
+#[inline(never)]
 fn outputs_of(source: Source<'_>, task: Task<'_>) -> Result<Outputs, AllocError> {
     match task.output_kind {
         OutputKind::Fault => drawn_output(false, task, source),
@@ -212,6 +222,7 @@ fn outputs_of(source: Source<'_>, task: Task<'_>) -> Result<Outputs, AllocError>
 /// Returns the result of a task for the input as a string literal, perhaps with a byte order mark
 /// before it and white space around it. Returns `Err` if the input is not a string literal or an
 /// allocation fails.
+#[inline(never)]
 fn outputs_of_literal(input: &str, task: Task<'_>) -> Result<Outputs, RunFault> {
     let snippet = snippet_of(input);
     let Some(LiteralText { text, style }) = literal_text(snippet.text)? else {
@@ -242,6 +253,7 @@ fn text_source<'a>(text: &'a str, lines: &'a str) -> Source<'a> {
 
 /// Returns the result of a task for an input. Returns `Err` if the task needs a string literal and
 /// the input is none, or if an allocation fails.
+#[inline(never)]
 pub fn outputs_of_input(input: &str, task: Task<'_>) -> Result<Outputs, RunFault> {
     if task.is_literal {
         return outputs_of_literal(input, task);

@@ -18,6 +18,7 @@ use std::io::{Read, Write};
 /// fails, or if the input is too long, not UTF-8, or not a string literal although the task needs
 /// one (`RunFault`, but never `Words`). A read or a write that fails is not tried again. After an
 /// error nothing is written, except that after a failed write a part may be.
+#[inline(never)]
 pub fn run<R: Read, W: Write, E: Write>(
     reader: &mut R,
     writer: &mut W,

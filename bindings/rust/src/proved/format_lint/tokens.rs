@@ -11,6 +11,7 @@ use crate::shim::alloc::AllocError;
 use crate::shim::prelude::*;
 
 /// Returns the name of a kind in a list of tokens.
+#[inline(never)]
 fn kind_name(kind: Kind) -> &'static str {
     match kind {
         Kind::Text => "text",
@@ -41,6 +42,7 @@ fn kind_name(kind: Kind) -> &'static str {
 
 /// Returns the escape of SGR that sets the colour of a kind on a terminal, or `None` if the kind is
 /// only text.
+#[inline(never)]
 fn colour_escape(kind: Kind) -> Option<&'static str> {
     match kind {
         Kind::Text | Kind::Whitespace | Kind::DiagnosticText | Kind::Quote => None,
@@ -69,6 +71,7 @@ fn put_drawn_text(out: &mut String, is_plain: bool, text: &str) -> Result<(), Al
 
 /// Adds a text in the colour of a kind, if that has one. If `is_plain`, each of its characters is
 /// drawn as it is.
+#[inline(never)]
 fn put_coloured_text(
     out: &mut String,
     is_plain: bool,
@@ -88,6 +91,7 @@ fn put_coloured_text(
 
 /// Adds a text in quotes as that is drawn. If `is_plain`, each of its characters beyond ASCII is
 /// drawn as it is.
+#[inline(never)]
 fn put_quoted_text(out: &mut String, is_plain: bool, text: &str) -> Result<(), AllocError> {
     if is_plain {
         return put_quoted(out, text);
@@ -100,6 +104,7 @@ fn put_quoted_text(out: &mut String, is_plain: bool, text: &str) -> Result<(), A
 
 /// Adds a line with the kind, the byte range and the text of a token. If `is_plain`, each character
 /// of that beyond ASCII is drawn as it is.
+#[inline(never)]
 fn put_line(out: &mut String, is_plain: bool, token: &Token, text: &str) -> Result<(), AllocError> {
     out.try_push_str(kind_name(token.kind))?;
     put_span(out, ' ', &token.span)?;
@@ -149,6 +154,7 @@ const ESCAPES_WIDTH: usize = 9;
 const LINE_WIDTH: usize = 24;
 
 /// Adds the tokens of a text, in colours or each in a line.
+#[inline(never)]
 pub fn put_tokens(
     out: &mut String,
     colours: bool,

@@ -6,6 +6,7 @@
 use crate::proved::rust_tokens::{first_token, split_first, Kind};
 
 /// Returns whether a text is one token, a raw string literal without a suffix.
+#[inline(never)]
 fn is_raw_token(text: &str) -> bool {
     let Some(token) = first_token(text) else {
         return false;

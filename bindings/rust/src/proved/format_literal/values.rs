@@ -30,6 +30,7 @@ impl<'a> Literal<'a> {
     /// Reads a string literal by the rules of the Rust Reference, `"..."` or `r#"..."#` with any
     /// number of hashes. Its lines end with LF. Returns `None` if the source is no such literal:
     /// for example with a prefix `b` or `c`, a suffix, or white space around it.
+    #[inline(never)]
     pub(crate) fn read(
         source: &'a str,
         mode: ParseMode,

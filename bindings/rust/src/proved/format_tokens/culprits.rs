@@ -25,6 +25,7 @@ pub enum Role {
 }
 
 /// Returns the role of a kind.
+#[inline(never)]
 pub fn role_of(kind: Kind) -> Role {
     match kind {
         Kind::OpenBrace => Role::OpenBrace,
@@ -51,6 +52,7 @@ pub fn role_of(kind: Kind) -> Role {
 }
 
 /// Returns whether the first brace that stands alone is a closing one.
+#[inline(never)]
 fn closes(labels: &[Label]) -> bool {
     for label in labels {
         match role_of(label.kind) {
@@ -77,6 +79,7 @@ fn has_argument(labels: &[Label]) -> bool {
 
 /// Returns whether a token is in place before `others`. `needs_names` says that only names are
 /// accepted, `is_inside` that the token is inside a pair of braces.
+#[inline(never)]
 pub fn fits(needs_names: bool, is_inside: bool, role: Role, others: &[Label]) -> bool {
     match role {
         Role::OpenBrace => closes(others) && (!needs_names || has_argument(others)),

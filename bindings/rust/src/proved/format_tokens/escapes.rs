@@ -21,6 +21,7 @@ fn escape_at(text: &str) -> Option<FirstUnit<'_>> {
 }
 
 /// Returns whether a token is text without braces.
+#[inline(never)]
 fn is_text(kind: Kind) -> bool {
     match kind {
         Kind::Text => true,
@@ -80,6 +81,7 @@ fn put_escape(tokens: &mut Vec<Token>, span: Range<usize>) -> Result<(), AllocEr
 }
 
 /// Adds the parts of a token with these source characters.
+#[inline(never)]
 fn put_parts(tokens: &mut Vec<Token>, token: &Token, text: &str) -> Result<(), AllocError> {
     let end = token.span.end;
     let mut from = token.span.start;
@@ -124,6 +126,7 @@ fn has_backslash(text: &str) -> bool {
 }
 
 /// Returns the tokens of an ordinary literal cut at its escapes.
+#[inline(never)]
 fn cut(literal: &str, tokens: &[Token]) -> Result<Vec<Token>, AllocError> {
     let mut list = Vec::made_for(tokens.len())?;
     let mut rest = literal;

@@ -40,6 +40,7 @@ fn source_of<'a>(
 
 /// Returns the byte offsets where the characters of an input start in its source literal, and then
 /// the end of the text.
+#[inline(never)]
 fn literal_starts(
     input: &str,
     style: Option<usize>,
@@ -58,6 +59,7 @@ fn literal_starts(
 /// Returns the tokens of an input with their byte ranges, where escapes are in the tokens of the
 /// characters that they stand for, and the opening and the closing of `literal`, its source literal
 /// if it has one.
+#[inline(never)]
 fn place_whole(
     input: &str,
     style: Option<usize>,
@@ -84,6 +86,7 @@ fn place_whole(
 
 /// Returns the tokens of an input with their byte ranges. `labels` are those that `label` adds; the
 /// other arguments are those of `tokens`.
+#[inline(never)]
 pub fn place_labels(
     input: &str,
     style: Option<usize>,
@@ -125,6 +128,7 @@ pub fn place_labels(
 /// its own, `EscapeSequence`, and cuts the token that it is in. An escape that stands for a brace,
 /// or for another character of a placeholder, stays in the token of that character.
 ///
+#[inline(never)]
 pub fn tokens(
     input: &str,
     style: Option<usize>,

@@ -20,6 +20,7 @@ pub fn length_of(text: &str) -> usize {
 
 /// Adds a token of a text's first `bytes` bytes, and returns the rest of the text. Without bytes
 /// there is no token.
+#[inline(never)]
 pub fn take<'a>(
     labels: &mut Vec<Label>,
     kind: Kind,
@@ -88,6 +89,7 @@ impl Run {
 }
 
 /// Returns the byte length of the longest prefix of a text whose characters are all of the class.
+#[inline(never)]
 pub fn run_width(text: &str, run: Run) -> usize {
     let mut rest = text.chars();
     let mut width = 0;
@@ -115,6 +117,7 @@ fn with_digit(number: u32, digit: char) -> u32 {
 }
 
 /// Returns whether the number that the digits at the start of a text write is above 65535.
+#[inline(never)]
 fn is_over(text: &str) -> bool {
     let mut number = 0;
     let mut rest = text.chars();
@@ -138,6 +141,7 @@ fn integer_kind(text: &str) -> Kind {
 }
 
 /// Returns whether a text that begins with a name has an `r#` before it.
+#[inline(never)]
 fn is_raw(text: &str, name: &str) -> bool {
     let hash = after_first(text);
     match first(name) {
@@ -147,6 +151,7 @@ fn is_raw(text: &str, name: &str) -> bool {
 }
 
 /// Adds the tokens of a position.
+#[inline(never)]
 pub fn position<'a>(
     labels: &mut Vec<Label>,
     position: &Position<'_>,
@@ -170,6 +175,7 @@ pub fn position<'a>(
 }
 
 /// Adds the tokens of a count.
+#[inline(never)]
 fn count<'a>(
     labels: &mut Vec<Label>,
     count: &Count<'_>,
@@ -256,6 +262,7 @@ fn type_width(debug_hex: Option<DebugHex>, ty: &str) -> usize {
 }
 
 /// Adds the tokens of a format specification.
+#[inline(never)]
 fn format<'a>(
     labels: &mut Vec<Label>,
     format: &FormatSpec<'_>,
@@ -281,6 +288,7 @@ fn format<'a>(
 }
 
 /// Adds the tokens of a specification, with the colon before it.
+#[inline(never)]
 pub fn specification<'a>(
     labels: &mut Vec<Label>,
     mode: ParseMode,

@@ -12,6 +12,7 @@ use crate::shim::prelude::*;
 
 /// Returns the byte offsets where the characters of a text start, where it starts at `at` and each
 /// character stands for itself, and then `end`.
+#[inline(never)]
 pub fn plain_starts(at: usize, text: &str, end: usize) -> Result<Vec<usize>, AllocError> {
     let mut starts = Vec::made_for(length_of(text).saturating_add(1))?;
     let mut next = at;
@@ -26,6 +27,7 @@ pub fn plain_starts(at: usize, text: &str, end: usize) -> Result<Vec<usize>, All
 
 /// Returns the byte offsets where the characters of an input start in its source literal, an
 /// ordinary one, and then the end of the text.
+#[inline(never)]
 pub fn ordinary_starts(snippet: &str, appended_newline: bool) -> Result<Vec<usize>, AllocError> {
     let Some(content) = quoted_content(snippet) else {
         return Ok(Vec::new());
@@ -48,6 +50,7 @@ pub fn ordinary_starts(snippet: &str, appended_newline: bool) -> Result<Vec<usiz
 
 /// Adds the tokens of the first `count` characters, with those marked that are out of place.
 /// `needs_names` says whether only names are accepted, `starts` where the characters start.
+#[inline(never)]
 pub fn place(
     tokens: &mut Vec<Token>,
     needs_names: bool,

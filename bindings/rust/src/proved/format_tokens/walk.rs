@@ -28,6 +28,7 @@ fn is_closed(bytes: usize, text: &str) -> bool {
 
 /// Adds the tokens of the first `bytes` bytes of a text, which the call reads in place of a closing
 /// brace, and returns the rest of the text.
+#[inline(never)]
 fn skip<'a>(labels: &mut Vec<Label>, bytes: usize, text: &'a str) -> Result<&'a str, AllocError> {
     let brace = usize::from(is_closed(bytes, text));
     let close = take(labels, Kind::Unexpected, bytes.saturating_sub(brace), text)?;
@@ -36,6 +37,7 @@ fn skip<'a>(labels: &mut Vec<Label>, bytes: usize, text: &'a str) -> Result<&'a 
 
 /// Adds the tokens of a placeholder at the start of a text, and returns the rest of the text after
 /// the call that read it: `rest_len` bytes.
+#[inline(never)]
 fn placeholder<'a>(
     labels: &mut Vec<Label>,
     mode: ParseMode,
@@ -74,6 +76,7 @@ fn escape_width(text: &str) -> usize {
 
 /// Adds the tokens of a piece of literal text at the start of a text, and returns the rest of the
 /// text after it: `rest_len` bytes.
+#[inline(never)]
 fn literal<'a>(
     labels: &mut Vec<Label>,
     rest_len: usize,
@@ -91,6 +94,7 @@ fn literal<'a>(
 /// Adds the labels of a call at the start of a text, and returns the rest of the text after it:
 /// `rest_len` bytes. `piece` is the piece that `Parser::next_into` returned, and `argument` the one
 /// into which it read a placeholder.
+#[inline(never)]
 pub fn label<'a>(
     labels: &mut Vec<Label>,
     mode: ParseMode,
@@ -114,6 +118,7 @@ pub fn label<'a>(
 }
 
 /// Returns the labels of an input, by the calls of a parser at its start.
+#[inline(never)]
 fn labels_by<'a>(
     parser: &mut Parser<'a>,
     mode: ParseMode,

@@ -76,24 +76,52 @@ struct Scan<'a> {
     found: AllowedParts,
 }
 
-/// Returns whether a token is a name of the lint, or of the group that it is in.
+/// The group of all lints that warn.
+const ALL_WARNINGS: &str = "warnings";
+
+/// Returns whether a token is a name of the lint, or of a group that it is in.
+#[inline(never)]
 fn is_lint(lint: Lint, token: Token<'_>) -> bool {
     let token = Some(token);
+    if is_named(token, ALL_WARNINGS) {
+        return true;
+    }
     match lint {
         Lint::Arguments => is_named(token, "uninlined_format_args") || is_named(token, "pedantic"),
         Lint::Positions => is_named(token, "named_arguments_used_positionally"),
     }
 }
 
-/// Returns whether a text can have an attribute that allows the lint.
+/// Returns whether a text can have an attribute.
+#[inline]
+pub fn has_attribute(text: &str) -> bool {
+    text.contains('#')
+}
+
+/// Returns whether a text has a word after one that allows lints.
+#[inline(never)]
+fn may_allow_word(text: &str, word: &str) -> bool {
+    if !text.contains(word) {
+        return false;
+    }
+    let (front, _) = text.rsplit_once(word).unwrap_or((text, ""));
+    front.contains("allow") || front.contains("expect")
+}
+
+/// Returns whether a text with attributes can have one that allows the lint.
+#[inline(never)]
 fn may_allow(lint: Lint, text: &str) -> bool {
+    if may_allow_word(text, ALL_WARNINGS) {
+        return true;
+    }
     match lint {
         Lint::Arguments => {
-            text.contains("uninlined_format_args")
-                || text.contains("pedantic")
+            may_allow_word(text, "uninlined_format_args")
+                || may_allow_word(text, "pedantic")
                 || text.contains("msrv")
         }
-        Lint::Positions => text.contains("named_arguments_used_positionally"),
+        // (the end of its name: Rust's library finds up to 32 bytes sixteen at a time)
+        Lint::Positions => may_allow_word(text, "used_positionally"),
     }
 }
 
@@ -104,6 +132,7 @@ fn content_of(literal: &str) -> Option<&str> {
 }
 
 /// Returns whether a literal names a version of Rust in which format strings capture no variables.
+#[inline(never)]
 fn is_too_old(literal: &str) -> bool {
     match content_of(literal) {
         Some(name) => match version_named(name) {
@@ -116,6 +145,7 @@ fn is_too_old(literal: &str) -> bool {
 
 impl Attribute {
     /// Passes a token inside it.
+    #[inline(never)]
     fn pass(&mut self, lint: Lint, token: Token<'_>) {
         let name = Some(token);
         if is_named(name, "allow") || is_named(name, "expect") {
@@ -135,6 +165,7 @@ impl Attribute {
 
 impl<'a> Scan<'a> {
     /// Notes that an attribute ended.
+    #[inline(never)]
     fn end_attribute(&mut self, attribute: Attribute) -> Result<(), AllocError> {
         if !attribute.is_found {
             return Ok(());
@@ -151,6 +182,7 @@ impl<'a> Scan<'a> {
     }
 
     /// Ends the last open part before a byte offset. Parts in it are left out.
+    #[inline(never)]
     fn end_part(&mut self, end: usize) -> Result<(), AllocError> {
         let Some(part) = self.open_parts.pop() else {
             return Ok(());
@@ -167,6 +199,7 @@ impl<'a> Scan<'a> {
     }
 
     /// Ends the parts that end at a token, after which this many delimiters are open.
+    #[inline(never)]
     fn end_parts(&mut self, token: Token<'_>, depth: usize) -> Result<(), AllocError> {
         let is_mark = is_mark_of(&token, b';') || is_mark_of(&token, b',');
         let is_brace = is_mark_of(&token, b'}');
@@ -187,6 +220,7 @@ impl<'a> Scan<'a> {
     }
 
     /// Passes a token that is in no attribute.
+    #[inline(never)]
     fn pass_outside(&mut self, token: Token<'a>) -> Result<(), AllocError> {
         if is_named(Some(token), "let") && is_mark(self.last, b']') {
             if let Some(part) = self.open_parts.pop() {
@@ -220,6 +254,7 @@ impl<'a> Scan<'a> {
     }
 
     /// Passes a token.
+    #[inline(never)]
     fn pass(&mut self, token: Token<'a>) -> Result<(), AllocError> {
         let depth = match token.side() {
             Side::Opens(_) => self.depth.saturating_add(1),
@@ -249,6 +284,7 @@ impl<'a> Scan<'a> {
 }
 
 /// Returns the parts of a file in which attributes allow a lint.
+#[inline(never)]
 pub fn allowed_parts(text: &str, lint: Lint) -> Result<AllowedParts, AllocError> {
     let mut scan = Scan {
         lint,
@@ -264,7 +300,7 @@ pub fn allowed_parts(text: &str, lint: Lint) -> Result<AllowedParts, AllocError>
             has_module: false,
         },
     };
-    if may_allow(lint, text) {
+    if has_attribute(text) && may_allow(lint, text) {
         let mut rest = Tokens::new(text);
         for _ in 0..u64::MAX {
             match rest.next() {
@@ -284,6 +320,7 @@ pub fn allowed_parts(text: &str, lint: Lint) -> Result<AllowedParts, AllocError>
 
 impl AllowedParts {
     /// Returns whether the lint is allowed at a byte offset.
+    #[inline(never)]
     pub fn has(&self, offset: usize) -> bool {
         let mut start = 0usize;
         let mut end = self.ranges.len();

@@ -3,8 +3,11 @@
 // Extracted from crates/formatlint/src/files.rt by tools/extract: not to be edited.
 // That source has the contracts, and is proved. That this text means the same is only tested.
 
+use crate::proved::file_paths::shown_path;
 use crate::proved::finding_forms::{put_end, put_finding, put_start, File};
+use crate::proved::format_calls::Table;
 use crate::proved::formatlint::output::{write, write_shown};
+use crate::proved::formatlint::own_rows::file_report;
 use crate::proved::formatlint::package_sources::PackageSources;
 use crate::proved::formatlint::reading::{
     break_words, open_source, read_all, text_of, Extent, FileText, Origin, SourceFile,
@@ -16,7 +19,6 @@ use crate::proved::lint_program::{is_option, print_hint, Change, Failure};
 use crate::proved::lint_words::Form;
 use crate::proved::manifest::{FileRules, Packages};
 use crate::proved::rust_trees::Places;
-use crate::proved::source_lint::file_faults;
 use crate::proved::source_report::{Options, Report};
 use crate::shim::host::fs;
 use crate::shim::prelude::*;
@@ -52,6 +54,8 @@ pub struct Run<'a> {
     pub packages: Packages,
     /// What the sources of the package of the last file say, if that mattered.
     pub sources: PackageSources,
+    /// The macros that these sources leave in no doubt in a file that says nothing of names.
+    pub certain: Table<'a>,
     pub totals: Totals,
     /// The text that is still to be written.
     out: String,
@@ -63,6 +67,7 @@ pub struct Run<'a> {
 
 impl<'a> Run<'a> {
     /// Writes the text that is still to be written.
+    #[inline(never)]
     fn flush(&mut self, rt: &crate::shim::host::HostRuntime) -> Result<(), Failure> {
         if !self.out.is_empty() {
             self.totals.clear_progress(rt);
@@ -77,6 +82,7 @@ impl<'a> Run<'a> {
     }
 
     /// Appends the messages of a file, and writes them from time to time.
+    #[inline(never)]
     fn put_findings<'x>(
         &mut self,
         rt: &crate::shim::host::HostRuntime,
@@ -96,6 +102,7 @@ impl<'a> Run<'a> {
 }
 
 /// Adds a failure to the totals if a file was not read to its end.
+#[inline(never)]
 fn add_break(
     rt: &crate::shim::host::HostRuntime,
     totals: &mut Totals,
@@ -119,6 +126,7 @@ fn add_break(
 
 impl<'a> Run<'a> {
     /// Writes the messages of a report on a file, of which this extent was read.
+    #[inline(never)]
     pub fn put_report<'x>(
         &mut self,
         rt: &crate::shim::host::HostRuntime,
@@ -131,8 +139,16 @@ impl<'a> Run<'a> {
         if report.findings.is_empty() && !is_broken {
             return Ok(());
         }
-        let places = Places::new(text)?;
-        let file = File { path, text, places };
+        let shown_path = shown_path(path)?;
+        let file = File {
+            // A URI has the bytes of a path.
+            path: match self.request.form {
+                Form::Sarif => path,
+                _ => shown_path.as_str(),
+            },
+            text,
+            places: Places::new(text)?,
+        };
         if !matches!(self.request.change, Some(Change::Diff | Change::Check)) {
             self.put_findings(rt, &file, report)?;
             self.flush(rt)?;
@@ -142,6 +158,7 @@ impl<'a> Run<'a> {
     }
 
     /// Reads a text of a file, and writes the messages about it.
+    #[inline(never)]
     pub fn report(
         &mut self,
         rt: &crate::shim::host::HostRuntime,
@@ -151,7 +168,7 @@ impl<'a> Run<'a> {
         origin: Origin<'_>,
         rules: FileRules,
     ) -> Result<(), Failure> {
-        let mut report = file_faults(text, &self.options)?;
+        let mut report = file_report(text, &self.options)?;
         self.drop_unwanted(rt, text, origin, rules, &mut report)?;
         self.totals.add(&report);
         self.put_report(rt, path, text, extent, &report)
@@ -159,6 +176,7 @@ impl<'a> Run<'a> {
 
     /// Returns what the project says of a file. The reason why its manifest was not understood is
     /// written, the first time.
+    #[inline(never)]
     fn rules(
         &mut self,
         rt: &crate::shim::host::HostRuntime,
@@ -175,6 +193,7 @@ impl<'a> Run<'a> {
     }
 
     /// Reads the bytes of a file, and writes the messages about it.
+    #[inline(never)]
     fn lint(
         &mut self,
         rt: &crate::shim::host::HostRuntime,
@@ -203,6 +222,7 @@ impl<'a> Run<'a> {
     }
 
     /// Reads standard input.
+    #[inline(never)]
     fn lint_stdin(&mut self, rt: &crate::shim::host::HostRuntime) -> Result<(), Failure> {
         print_hint(rt);
         let path = self.request.stdin_path.unwrap_or("<stdin>");
@@ -216,6 +236,7 @@ impl<'a> Run<'a> {
     }
 
     /// Reads a file, which a walk found or the request names.
+    #[inline(never)]
     fn lint_file(
         &mut self,
         rt: &crate::shim::host::HostRuntime,
@@ -238,6 +259,7 @@ impl<'a> Run<'a> {
     }
 
     /// Reads the files below a folder.
+    #[inline(never)]
     fn lint_folder(
         &mut self,
         rt: &crate::shim::host::HostRuntime,
@@ -259,6 +281,7 @@ impl<'a> Run<'a> {
     }
 
     /// Reads a file or a folder, or standard input.
+    #[inline(never)]
     fn lint_path(
         &mut self,
         rt: &crate::shim::host::HostRuntime,
@@ -281,6 +304,7 @@ impl<'a> Run<'a> {
     }
 
     /// Reads all paths of the request.
+    #[inline(never)]
     fn lint_all(&mut self, rt: &crate::shim::host::HostRuntime) -> Result<(), Failure> {
         put_start(&mut self.out, self.request.form, self.request.version)?;
         self.flush(rt)?;
@@ -302,6 +326,7 @@ impl<'a> Run<'a> {
 
 /// Returns whether standard output has the new source of standard input, so that messages are
 /// written to standard error.
+#[inline(never)]
 fn is_aside(request: &Request<'_>) -> bool {
     let is_stdin_read =
         request.paths.contains(&"-") || request.paths.is_empty() && request.stdin_path.is_some();
@@ -310,6 +335,7 @@ fn is_aside(request: &Request<'_>) -> bool {
 
 /// Reads all paths of a request, and writes the messages about them. Returns the totals, even if
 /// the run ended with a failure.
+#[inline(never)]
 pub fn lint<'a>(
     rt: &crate::shim::host::HostRuntime,
     request: &'a Request<'a>,
@@ -320,6 +346,7 @@ pub fn lint<'a>(
         options,
         packages: Packages::new(rt, request.edition, request.rewrite.inlines),
         sources: PackageSources::new(rt),
+        certain: Table { rows: Vec::new() },
         totals: Totals::new(rt),
         out: String::new(),
         has_messages: false,

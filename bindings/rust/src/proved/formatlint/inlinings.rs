@@ -53,6 +53,7 @@ fn count(number: &mut usize) {
 
 impl Inlinings {
     /// Counts a call that is left.
+    #[inline(never)]
     fn add_obstacle(&mut self, reason: Obstacle) {
         match reason {
             Obstacle::Uncounted => count(&mut self.uncounted_calls),
@@ -69,20 +70,22 @@ impl Inlinings {
     }
 
     /// Counts the calls of a file.
+    #[inline(never)]
     pub fn add(&mut self, file: &RewrittenFile) {
-        self.uncertain_calls = self.uncertain_calls.saturating_add(file.uncertain_calls);
         for call in &file.calls {
             match *call {
                 CallInlining::Inlined if file.has_inlines => count(&mut self.inlined_calls),
                 CallInlining::Inlined => count(&mut self.spoiled_calls),
                 CallInlining::Unchanged(reason) => self.add_obstacle(reason),
                 CallInlining::Assembly => count(&mut self.assembly),
+                CallInlining::Uncertain => count(&mut self.uncertain_calls),
                 CallInlining::Unread(_) => {}
             }
         }
     }
 
     /// Returns how many calls are left for each reason, with the reason.
+    #[inline(never)]
     pub fn rows(&self) -> [(usize, &'static str); 13] {
         [
             (self.calls_without_variable, "no argument is a variable"),

@@ -9,6 +9,7 @@ pub(crate) mod changed_files;
 pub(crate) mod files;
 pub(crate) mod inlinings;
 pub(crate) mod output;
+pub(crate) mod own_rows;
 pub(crate) mod package_sources;
 pub(crate) mod reading;
 pub(crate) mod rewrites;
@@ -18,6 +19,7 @@ pub(crate) mod wanted_reports;
 
 use crate::proved::drawn_lines::WIDTH;
 use crate::proved::fault_rules::{put_explanation, rule_of, RULES};
+use crate::proved::file_paths::shown_path;
 use crate::proved::lint_program::{
     change_of, command, form_of, has_colours, literal_status, print_failure, table_of, width_of,
     Change, VERSION,
@@ -28,11 +30,12 @@ use crate::proved::source_report::Options;
 use crate::shim::alloc::AllocError;
 use crate::shim::clap::error::ErrorKind;
 use crate::shim::clap::{ArgMatches, Error};
-use crate::shim::host::env;
+use crate::shim::host::env::words as args;
 use crate::shim::strsim::levenshtein;
 use files::{lint, Request};
 use output::write;
 use rewrites::Rewrite;
+use std::io;
 use std::process::ExitCode;
 use totals::Totals;
 
@@ -75,6 +78,7 @@ fn print(rt: &crate::shim::host::HostRuntime, text: &str) -> u8 {
 
 /// Returns the id that is nearest to a word by the number of characters to change, the first of
 /// several, or `None` if each wants more than a third of the word changed, as rustc does for names.
+#[inline(never)]
 fn similar_id(word: &str) -> Result<Option<&'static str>, AllocError> {
     let mut limit = word.len().max(3) / 3;
     let mut id = None;
@@ -91,11 +95,12 @@ fn similar_id(word: &str) -> Result<Option<&'static str>, AllocError> {
 /// Returns a word as messages have it.
 fn shown_word(word: &str) -> Result<String, AllocError> {
     let mut out = String::new();
-    put_shown(&mut out, Kind::Line, word)?;
+    put_shown(&mut out, Kind::Line, shown_path(word)?.as_str())?;
     Ok(out)
 }
 
 /// Returns the error that no kind of fault has this id.
+#[inline(never)]
 fn id_error(rt: &crate::shim::host::HostRuntime, wrong_id: &str) -> Result<u8, Error> {
     let id = shown_word(wrong_id)?;
     let reason = match similar_id(wrong_id)? {
@@ -111,6 +116,7 @@ fn id_error(rt: &crate::shim::host::HostRuntime, wrong_id: &str) -> Result<u8, E
 
 /// Writes the explanation of the kind of fault with this id. Returns the exit status, and `Err` if
 /// no kind has the id or an allocation fails.
+#[inline(never)]
 fn explain(rt: &crate::shim::host::HostRuntime, id: &str) -> Result<u8, Error> {
     let Some(rule) = rule_of(id) else {
         return id_error(rt, id);
@@ -121,6 +127,7 @@ fn explain(rt: &crate::shim::host::HostRuntime, id: &str) -> Result<u8, Error> {
 }
 
 /// Reads one string. Returns the exit status.
+#[inline(never)]
 fn read_string(rt: &crate::shim::host::HostRuntime, matches: &ArgMatches<'_>) -> Result<u8, Error> {
     if matches
         .get_strs("path")
@@ -142,6 +149,7 @@ fn is_preview(change: Option<Change>) -> bool {
 
 /// Returns the exit status of a run with these totals: 3 if something could not be read or written,
 /// otherwise 1 if there is a fault, or for a preview if a file would change, and otherwise 0.
+#[inline(never)]
 fn status_of(totals: &Totals, change: Option<Change>) -> u8 {
     let is_found = if is_preview(change) {
         totals.changed_files > 0
@@ -158,6 +166,7 @@ fn status_of(totals: &Totals, change: Option<Change>) -> u8 {
 }
 
 /// Reads files and folders. Returns the exit status.
+#[inline(never)]
 fn read_files(
     rt: &crate::shim::host::HostRuntime,
     matches: &ArgMatches<'_>,
@@ -181,6 +190,7 @@ fn read_files(
 }
 
 /// Reads the files and folders that the arguments name. Returns the exit status.
+#[inline(never)]
 fn files_status(
     rt: &crate::shim::host::HostRuntime,
     matches: &ArgMatches<'_>,
@@ -230,6 +240,7 @@ fn files_status(
 /// Returns the error of words that are wrong, which quotes them as messages have them: so they are
 /// wrong for the same reason, as no option or value of one has a character that only messages have.
 /// Returns the given error if the words are not wrong, but an allocation failed.
+#[inline(never)]
 fn words_error(
     rt: &crate::shim::host::HostRuntime,
     words: &[String],
@@ -247,6 +258,7 @@ fn words_error(
 
 /// Reads the arguments of the program and runs their task. Returns the exit status, and `Err` if
 /// the arguments are invalid or request help or the version, or if an allocation fails.
+#[inline(never)]
 fn status(rt: &crate::shim::host::HostRuntime, words: &[String]) -> Result<u8, Error> {
     let matches = match command()?.try_get_matches_from(words) {
         Ok(matches) => matches,
@@ -276,12 +288,13 @@ fn fail(rt: &crate::shim::host::HostRuntime, reason: &str, status: u8) -> ExitCo
     ExitCode::from(status)
 }
 
+#[inline(never)]
 pub fn main(rt: crate::shim::host::HostRuntime) -> ExitCode {
-    let words: Vec<String> = match env::args(&rt) {
-        Ok(words) => match words.collect_in() {
-            Ok(words) => words,
-            Err(_) => return fail(&rt, "out of memory", 3),
-        },
+    let words = match args(&rt) {
+        Ok(words) => words,
+        Err(error) if error.kind() == io::ErrorKind::OutOfMemory => {
+            return fail(&rt, "out of memory", 3);
+        }
         Err(_) => return fail(&rt, "an argument is not UTF-8", 2),
     };
     match status(&rt, words.as_slice()) {

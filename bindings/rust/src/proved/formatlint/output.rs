@@ -14,6 +14,7 @@ pub fn write(rt: &crate::shim::host::HostRuntime, text: &str) -> Result<(), Fail
 }
 
 /// Writes bytes to standard output.
+#[inline(never)]
 fn write_bytes(rt: &crate::shim::host::HostRuntime, bytes: &[u8]) -> Result<(), Failure> {
     let mut writer = Recorder::new(rt.stdout());
     match write_whole(&mut writer, bytes) {

@@ -3,7 +3,7 @@
 // Extracted from crates/formatlint/src/package_sources.rt by tools/extract: not to be edited.
 // That source has the contracts, and is proved. That this text means the same is only tested.
 
-use crate::proved::formatlint::attributes::{allowed_parts, Lint};
+use crate::proved::formatlint::attributes::{allowed_parts, has_attribute, Lint};
 use crate::proved::formatlint::walk::is_left_out;
 use crate::proved::macro_owners::Facts;
 use crate::proved::manifest::Package;
@@ -11,6 +11,7 @@ use crate::shim::alloc::AllocError;
 use crate::shim::host::fs;
 use crate::shim::host::fs::DirEntry;
 use crate::shim::prelude::*;
+use alloc::collections::BTreeSet;
 use core::mem;
 use std::io;
 use std::io::Read;
@@ -35,9 +36,12 @@ pub struct PackageSources {
     pub allows_arguments: bool,
     /// Whether the package allows `named_arguments_used_positionally` in all files.
     pub allows_positions: bool,
+    /// The paths from the root on of the files that were read.
+    paths: BTreeSet<String>,
 }
 
 /// Returns the text of a file, or its first 64 MiB and a byte more. Fails if it cannot be read.
+#[inline(never)]
 fn read_text(rt: &crate::shim::host::HostRuntime, path: &str) -> io::Result<String> {
     let mut text = String::new();
     fs::open(rt, path)?
@@ -47,6 +51,7 @@ fn read_text(rt: &crate::shim::host::HostRuntime, path: &str) -> io::Result<Stri
 }
 
 /// Returns whether a package gives a crate on which it depends another name than its own.
+#[inline(never)]
 fn renames(package: &Package) -> bool {
     for dependency in &package.dependencies {
         let name = dependency.name.as_str();
@@ -81,15 +86,16 @@ fn is_root(folder: &str, path: &str) -> bool {
 
 /// Adds the path of an entry of a folder to `files` or to `folders`, if it is one of a source file
 /// or of a folder. Fails if that is not known.
+#[inline(never)]
 fn put_entry(
     rt: &crate::shim::host::HostRuntime,
     folder: &str,
-    entry: &DirEntry<crate::shim::host::HostRuntime>,
+    entry: &DirEntry,
     files: &mut Vec<String>,
     folders: &mut Vec<String>,
 ) -> io::Result<()> {
     let name = entry.file_name();
-    let kind = entry.file_type()?;
+    let kind = entry.file_type(rt)?;
     let path = crate::shim::try_format!("{folder}/{name}")?;
     if kind.is_dir() && !is_left_out(name) {
         folders.try_push(path)?;
@@ -101,18 +107,15 @@ fn put_entry(
 
 /// Adds the paths of the source files of a folder to `files`, and those of folders to `folders`.
 /// Fails if an allocation fails.
+#[inline(never)]
 fn put_entries(
     rt: &crate::shim::host::HostRuntime,
     folder: &str,
     files: &mut Vec<String>,
     folders: &mut Vec<String>,
 ) -> io::Result<()> {
-    for entry in fs::read_dir(rt, folder)? {
-        let result = match entry {
-            Ok(entry) => put_entry(rt, folder, &entry, files, folders),
-            Err(error) => Err(error),
-        };
-        match result {
+    for entry in &fs::read_dir(rt, folder)? {
+        match put_entry(rt, folder, entry, files, folders) {
             Err(error) if !is_no_source(&error) => return Err(error),
             _ => {}
         }
@@ -128,6 +131,7 @@ impl PackageSources {
             facts: Facts::new(),
             allows_arguments: false,
             allows_positions: false,
+            paths: BTreeSet::new(),
         }
     }
 
@@ -142,15 +146,18 @@ impl PackageSources {
         Ok(())
     }
 
-    /// Adds what a text says, of the root of a library or a program or of another file.
-    fn add_text(
+    /// Adds what attributes of a text say, of the root of a library or a program or of another
+    /// file.
+    #[inline(never)]
+    fn add_attributes(
         &mut self,
         rt: &crate::shim::host::HostRuntime,
         text: &str,
         is_root: bool,
     ) -> Result<(), AllocError> {
-        let facts = mem::replace(&mut self.facts, Facts::new());
-        self.facts = facts.with_file(text)?;
+        if !has_attribute(text) {
+            return Ok(());
+        }
         let arguments = allowed_parts(text, Lint::Arguments)?;
         if arguments.has_module || is_root && arguments.is_whole {
             self.allows_arguments = true;
@@ -162,7 +169,31 @@ impl PackageSources {
         Ok(())
     }
 
+    /// Reads what attributes of a text say that is in no package, and no facts.
+    pub(crate) fn read_attributes(
+        &mut self,
+        rt: &crate::shim::host::HostRuntime,
+        text: &str,
+    ) -> Result<(), AllocError> {
+        *self = PackageSources::new(rt);
+        self.add_attributes(rt, text, false)
+    }
+
+    /// Adds what a text says, of the root of a library or a program or of another file.
+    #[inline(never)]
+    fn add_text(
+        &mut self,
+        rt: &crate::shim::host::HostRuntime,
+        text: &str,
+        is_root: bool,
+    ) -> Result<(), AllocError> {
+        let facts = mem::replace(&mut self.facts, Facts::new());
+        self.facts = facts.with_file(text)?;
+        self.add_attributes(rt, text, is_root)
+    }
+
     /// Adds what the file of a path says. Of one that is too long every name is unknown.
+    #[inline(never)]
     fn add_path(
         &mut self,
         rt: &crate::shim::host::HostRuntime,
@@ -170,13 +201,25 @@ impl PackageSources {
         is_root: bool,
     ) -> Result<(), AllocError> {
         match read_text(rt, path) {
-            Ok(text) if text.len() as u64 <= MOST => self.add_text(rt, text.as_str(), is_root),
+            Ok(text) if text.len() as u64 <= MOST => {
+                self.paths.insert_in(String::made_from(path)?)?;
+                self.add_text(rt, text.as_str(), is_root)
+            }
             Err(error) if is_no_source(&error) => Ok(()),
             _ => self.add_name(rt, EVERY_NAME),
         }
     }
 
+    /// Returns whether a file was read, so that its facts are among these.
+    pub fn has_file(&self, rt: &crate::shim::host::HostRuntime, path: &str) -> bool {
+        match fs::canonicalize(rt, path) {
+            Ok(whole_path) => self.paths.contains(whole_path.as_str()),
+            Err(_) => false,
+        }
+    }
+
     /// Adds what all source files below a folder say: those that a run over it reads.
+    #[inline(never)]
     fn add_folder(
         &mut self,
         rt: &crate::shim::host::HostRuntime,
@@ -201,8 +244,20 @@ impl PackageSources {
         Ok(())
     }
 
+    /// Returns whether these are the sources of a package, which were read.
+    #[inline(never)]
+    pub fn is_of(&self, package: Option<&Package>) -> bool {
+        match package {
+            Some(package) => {
+                !self.folder.is_empty() && self.folder.as_str() == package.folder.as_str()
+            }
+            None => false,
+        }
+    }
+
     /// Reads what a package says, of which a file has this text: all source files below its folder.
     /// Without a package it is what the text alone says.
+    #[inline(never)]
     pub(crate) fn read(
         &mut self,
         rt: &crate::shim::host::HostRuntime,
@@ -214,9 +269,6 @@ impl PackageSources {
             return self.add_text(rt, text, false);
         };
         let folder = package.folder.as_str();
-        if self.folder.as_str() == folder && !folder.is_empty() {
-            return Ok(());
-        }
         *self = PackageSources::new(rt);
         self.add_folder(rt, if folder.is_empty() { "/" } else { folder })?;
         if renames(package) {
@@ -227,6 +279,7 @@ impl PackageSources {
     }
 
     /// Reads what a package says, with a text that no file of it has to have.
+    #[inline(never)]
     pub(crate) fn read_with(
         &mut self,
         rt: &crate::shim::host::HostRuntime,

@@ -6,6 +6,7 @@
 use crate::proved::formatlint::walk::Walk;
 use crate::proved::rust_trees::BreakKind;
 use crate::shim::host::fs;
+use crate::shim::host::fs::File;
 use crate::shim::prelude::*;
 use std::io;
 use std::io::Read;
@@ -45,6 +46,7 @@ pub struct FileText<'a> {
 }
 
 /// Returns the text at the start of a file, and how much of it that is.
+#[inline(never)]
 pub fn text_of(bytes: &[u8]) -> FileText<'_> {
     let is_cut = bytes.len() > MOST;
     let front = bytes.get(..MOST).unwrap_or(bytes);
@@ -80,12 +82,13 @@ pub fn read_all<R: Read>(rt: &crate::shim::host::HostRuntime, stream: R) -> io::
 /// An open file, and the bytes that were read of it.
 pub struct SourceFile {
     /// The file.
-    pub file: fs::File,
+    pub file: File,
     /// The bytes.
     pub bytes: Vec<u8>,
 }
 
 /// Opens a file and reads it. Returns `None` if a walk found it and it does not lie there any more.
+#[inline(never)]
 pub fn open_source(
     rt: &crate::shim::host::HostRuntime,
     path: &str,
@@ -105,7 +108,7 @@ pub fn open_source(
 #[derive(Clone, Copy)]
 pub enum Origin<'f> {
     /// A file, which is still open.
-    File(&'f fs::File),
+    File(&'f File),
     /// Standard input.
     Stdin,
 }

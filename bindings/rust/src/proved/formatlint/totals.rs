@@ -3,6 +3,7 @@
 // Extracted from crates/formatlint/src/totals.rt by tools/extract: not to be edited.
 // That source has the contracts, and is proved. That this text means the same is only tested.
 
+use crate::proved::file_paths::shown_path;
 use crate::proved::format_calls::Reason;
 use crate::proved::formatlint::inlinings::{Inlinings, NO_CALLS};
 use crate::proved::formatlint::rewrites::RewrittenFile;
@@ -71,6 +72,7 @@ fn plural_ending(number: usize) -> &'static str {
 
 /// Appends the line that says which step of the writing of the file with this path failed, and
 /// where its old text is.
+#[inline(never)]
 fn put_step(out: &mut String, path: &str, failure: &StepFailure) -> Result<(), AllocError> {
     let state = match failure.left {
         LeftText::Old => "not written",
@@ -86,11 +88,25 @@ fn put_step(out: &mut String, path: &str, failure: &StepFailure) -> Result<(), A
     }
     if let Some(old_path) = &failure.old_path {
         reason.try_push_str("; its old text is in ")?;
-        reason.try_push_str(old_path.as_str())?;
+        reason.try_push_str(shown_path(old_path.as_str())?.as_str())?;
     } else if failure.left == LeftText::Part {
         reason.try_push_str("; its old text is lost")?;
     }
-    put_failure(out, path, RunFault::Write, reason.as_str())
+    let path = shown_path(path)?;
+    put_failure(out, path.as_str(), RunFault::Write, reason.as_str())
+}
+
+/// Appends the line that says why the file or folder with this path was not read.
+#[inline(never)]
+fn put_words(out: &mut String, path: &str, words: &str) -> Result<(), AllocError> {
+    let (path, words) = (shown_path(path)?, shown_path(words)?);
+    put_failure(out, path.as_str(), RunFault::Read, words.as_str())
+}
+
+/// Appends the line that says why the file with this path was not read from a place on.
+fn put_place(out: &mut String, path: &str, place: Place, words: &str) -> Result<(), AllocError> {
+    let path = shown_path(path)?;
+    put_place_failure(out, path.as_str(), place, words)
 }
 
 /// Returns the words for a key of a manifest whose value is none.
@@ -113,6 +129,7 @@ fn show_rows(rt: &crate::shim::host::HostRuntime, rows: &[(usize, &'static str)]
 
 impl UnreadCalls {
     /// Counts a call.
+    #[inline(never)]
     fn add(&mut self, reason: Reason) {
         match reason {
             Reason::NoArgument => count(&mut self.missing_strings),
@@ -125,6 +142,7 @@ impl UnreadCalls {
     }
 
     /// Returns how many calls there are for each reason, with the reason.
+    #[inline(never)]
     fn rows(&self) -> [(usize, &'static str); 11] {
         [
             (self.missing_strings, "no format string"),
@@ -144,6 +162,7 @@ impl UnreadCalls {
 
 impl Totals {
     /// Returns the totals of a run that begins now.
+    #[inline(never)]
     pub fn new(rt: &crate::shim::host::HostRuntime) -> Totals {
         Totals {
             files: 0,
@@ -186,6 +205,7 @@ impl Totals {
     }
 
     /// Counts a call.
+    #[inline(never)]
     fn add_call(&mut self, reading: CallReading) {
         count(&mut self.calls);
         match reading {
@@ -201,6 +221,7 @@ impl Totals {
     }
 
     /// Counts a file, its calls, and the faults and warnings in it.
+    #[inline(never)]
     pub fn add(&mut self, report: &Report) {
         count(&mut self.files);
         for call in &report.calls {
@@ -229,6 +250,7 @@ impl Totals {
 
     /// Counts a failure, and writes to standard error which step of the writing of the file with
     /// this path failed.
+    #[inline(never)]
     pub fn fail_step(
         &mut self,
         rt: &crate::shim::host::HostRuntime,
@@ -245,10 +267,11 @@ impl Totals {
     }
 
     /// Writes a line about the file or folder with this path to standard error.
+    #[inline(never)]
     fn show_words(&mut self, rt: &crate::shim::host::HostRuntime, path: &str, words: &str) {
         self.progress.clear(rt);
         let mut out = String::new();
-        let _ = match put_failure(&mut out, path, RunFault::Read, words) {
+        let _ = match put_words(&mut out, path, words) {
             Ok(()) => rt.eprint(out.as_str()),
             Err(_) => rt.eprintln("formatlint: out of memory"),
         };
@@ -256,6 +279,7 @@ impl Totals {
 
     /// Counts a failure, and writes to standard error why the file or folder with this path was not
     /// read, in the words of the system.
+    #[inline(never)]
     pub fn fail(&mut self, rt: &crate::shim::host::HostRuntime, path: &str, error: &io::Error) {
         match crate::shim::try_format!("{error}") {
             Ok(words) => self.fail_for(rt, path, system_words(words.as_str())),
@@ -271,6 +295,7 @@ impl Totals {
     }
 
     /// Writes to standard error that a file has the old text of another one. That is no failure.
+    #[inline(never)]
     pub fn show_old_text(&mut self, rt: &crate::shim::host::HostRuntime, path: &str, name: &str) {
         let words = crate::shim::try_format!(
             "has the old text of {name}: a run of formatlint is writing that file, or was ended"
@@ -282,6 +307,7 @@ impl Totals {
     }
 
     /// Counts a failure, and writes to standard error why a file was not read from a place on.
+    #[inline(never)]
     pub fn fail_at(
         &mut self,
         rt: &crate::shim::host::HostRuntime,
@@ -292,13 +318,14 @@ impl Totals {
         count(&mut self.failures);
         self.progress.clear(rt);
         let mut out = String::new();
-        let _ = match put_place_failure(&mut out, path, place, reason) {
+        let _ = match put_place(&mut out, path, place, reason) {
             Ok(()) => rt.eprint(out.as_str()),
             Err(_) => rt.eprintln("formatlint: out of memory"),
         };
     }
 
     /// Counts a failure, and writes to standard error why a manifest was not understood.
+    #[inline(never)]
     pub fn fail_manifest(
         &mut self,
         rt: &crate::shim::host::HostRuntime,
@@ -321,6 +348,7 @@ impl Totals {
     }
 
     /// Writes how many faults are fixed and calls are inlined, and in how many files.
+    #[inline(never)]
     fn show_changes(&self, rt: &crate::shim::host::HostRuntime, is_preview: bool) {
         let (faults, calls, files) = (
             self.fixed_faults,
@@ -344,6 +372,7 @@ impl Totals {
 
     /// Writes how many files and format strings were read, how many faults were found, and what is
     /// changed, or is to be changed where no file is written.
+    #[inline(never)]
     pub fn sum_up(&self, rt: &crate::shim::host::HostRuntime, is_preview: bool) {
         let (files, strings, faults) = (self.files, self.strings(), self.faults);
         let (file_ending, string_ending) = (plural_ending(files), plural_ending(strings));
@@ -362,6 +391,7 @@ impl Totals {
     }
 
     /// Writes how many calls of known macros there are, and why strings were not read.
+    #[inline(never)]
     pub fn show_counts(&self, rt: &crate::shim::host::HostRuntime) {
         let (files, calls, strings) = (self.files, self.calls, self.strings());
         let _ = crate::shim::eprintln_in!(rt; "files: {files}");
@@ -377,6 +407,7 @@ impl Totals {
     }
 
     /// Writes how many calls are inlined, and why the others that were read are left.
+    #[inline(never)]
     pub fn show_inlinings(&self, rt: &crate::shim::host::HostRuntime) {
         let count = self.inlinings.inlined_calls;
         let rows = self.inlinings.rows();

@@ -7,7 +7,8 @@ use crate::proved::formatlint::totals::Totals;
 use crate::proved::lint_program::{is_same, name_before, path_of};
 use crate::shim::alloc::AllocError;
 use crate::shim::host::fs;
-use crate::shim::host::fs::{DirEntry, File};
+use crate::shim::host::fs::DirEntry;
+use crate::shim::host::fs::{symlink_metadata, File};
 use crate::shim::prelude::*;
 use std::io;
 
@@ -33,6 +34,7 @@ pub struct Walk<'a> {
 }
 
 /// Returns the path of a name in a folder. An empty path is that of the current folder.
+#[inline(never)]
 fn join(folder: &str, name: &str) -> Result<String, AllocError> {
     let mut path = String::made_from(folder)?;
     if !folder.is_empty() && !folder.ends_with('/') {
@@ -60,6 +62,7 @@ pub fn is_left_out(name: &str) -> bool {
 
 impl<'a> Walk<'a> {
     /// Returns the files below a folder. An empty path is that of the current folder.
+    #[inline(never)]
     pub(crate) fn new(
         rt: &crate::shim::host::HostRuntime,
         folder: &'a str,
@@ -85,6 +88,7 @@ impl<'a> Walk<'a> {
     /// Returns whether an open file is the one that lies at a path that `next` returned: no folder
     /// on the way and not the file itself was replaced by a link meanwhile. Where the system does
     /// not say the path of an open file, this is known of the file itself alone.
+    #[inline(never)]
     pub fn holds(
         &self,
         rt: &crate::shim::host::HostRuntime,
@@ -92,7 +96,7 @@ impl<'a> Walk<'a> {
         file: &File,
     ) -> io::Result<bool> {
         let Some(real_folder) = &self.real_folder else {
-            return Ok(is_same(&fs::symlink_metadata(rt, path)?, &file.metadata()?));
+            return Ok(is_same(&symlink_metadata(rt, path)?, &file.metadata()?));
         };
         let real_path = path_of(rt, file)?;
         let found = real_path.as_str().strip_prefix(real_folder.as_str());
@@ -101,11 +105,12 @@ impl<'a> Walk<'a> {
     }
 
     /// Adds an entry of a folder, if it is to be read. Says what a file with an old text is.
+    #[inline(never)]
     fn add(
         &self,
         rt: &crate::shim::host::HostRuntime,
         folder: &str,
-        entry: &DirEntry<crate::shim::host::HostRuntime>,
+        entry: &DirEntry,
         entries: &mut Vec<Entry>,
         totals: &mut Totals,
     ) -> io::Result<()> {
@@ -113,7 +118,7 @@ impl<'a> Walk<'a> {
         if self.excluded_names.contains(&name) {
             return Ok(());
         }
-        let kind = entry.file_type()?;
+        let kind = entry.file_type(rt)?;
         let is_folder = kind.is_dir();
         let is_read = if is_folder {
             !is_left_out(name)
@@ -138,6 +143,7 @@ impl<'a> Walk<'a> {
 
     /// Returns the entries of a folder, the first one last. The failure of an entry
     /// that cannot be read is added to the totals.
+    #[inline(never)]
     fn entries(
         &self,
         rt: &crate::shim::host::HostRuntime,
@@ -146,12 +152,8 @@ impl<'a> Walk<'a> {
     ) -> io::Result<Vec<Entry>> {
         let path = shown_folder(folder);
         let mut entries = Vec::new();
-        for entry in fs::read_dir(rt, path)? {
-            let result = match entry {
-                Ok(entry) => self.add(rt, folder, &entry, &mut entries, totals),
-                Err(error) => Err(error),
-            };
-            if let Err(error) = result {
+        for entry in &fs::read_dir(rt, path)? {
+            if let Err(error) = self.add(rt, folder, entry, &mut entries, totals) {
                 totals.fail(rt, path, &error);
             }
         }
@@ -162,6 +164,7 @@ impl<'a> Walk<'a> {
 
     /// Returns the path of the next file, or `None` if there is none. The failure of
     /// a folder that cannot be read is added to the totals.
+    #[inline(never)]
     pub(crate) fn next(
         &mut self,
         rt: &crate::shim::host::HostRuntime,

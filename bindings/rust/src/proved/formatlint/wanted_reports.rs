@@ -4,35 +4,48 @@
 // Extracted from crates/formatlint/src/wanted_reports.rt by tools/extract: not to be edited.
 // That source has the contracts, and is proved. That this text means the same is only tested.
 
+use crate::proved::format_calls::Table;
 use crate::proved::formatlint::attributes::{allowed_parts, Lint};
 use crate::proved::formatlint::files::Run;
+use crate::proved::formatlint::own_rows::file_report;
 use crate::proved::formatlint::reading::Origin;
 use crate::proved::formatlint::rewrites::may_call_others;
-use crate::proved::macro_owners::{likely_table, Facts};
+use crate::proved::macro_owners::{certain_table, likely_table, Facts};
 use crate::proved::manifest::{FileRules, Package, Packages};
-use crate::proved::source_lint::file_faults;
 use crate::proved::source_report::{Finding, Options, Report};
 use crate::shim::alloc::AllocError;
 
 /// The id of the warning that a named argument is used by its index.
 const POSITION_ID: &str = "name-used-by-index";
 
-/// Takes the faults out of a report on a text that are of other macros than those of the table, as
-/// far as such macros are in sight, by the facts of the package.
-fn drop_unlikely(
+/// Parts of the words without which a text gives no name of a macro or of a crate.
+const GIVING: [&str; 4] = ["use", "mod", "macro", "as"];
+
+/// Returns whether a text may give the name of a macro, or of a crate that owns macros.
+fn may_give(text: &str) -> bool {
+    for word in &GIVING {
+        if text.contains(*word) {
+            return true;
+        }
+    }
+    false
+}
+
+/// Takes the faults out of a report on a text that are of other macros than those of a table: those
+/// of whose names no other macro is in sight.
+#[inline(never)]
+fn drop_unlikely<'a>(
     text: &str,
-    options: &Options<'_>,
-    package_facts: &Facts,
+    options: &Options<'a>,
+    table: Table<'a>,
     report: &mut Report,
 ) -> Result<(), AllocError> {
-    let file_facts = Facts::new().with_file(text)?;
-    let table = likely_table(&options.table, package_facts, &file_facts)?;
     if may_call_others(text, &options.table, &table) {
         let likely_options = Options {
             table,
             is_from_2021: options.is_from_2021,
         };
-        let likely_report = file_faults(text, &likely_options)?;
+        let likely_report = file_report(text, &likely_options)?;
         report.findings = likely_report.findings;
     }
     Ok(())
@@ -56,6 +69,7 @@ fn has_position(findings: &[Finding]) -> bool {
 
 impl<'a> Run<'a> {
     /// Reads what the sources of the package of a file say, which has this text.
+    #[inline(never)]
     pub(crate) fn read_sources(
         &mut self,
         rt: &crate::shim::host::HostRuntime,
@@ -65,14 +79,58 @@ impl<'a> Run<'a> {
     ) -> Result<(), AllocError> {
         let package = package_of(&self.packages, rules);
         if matches!(origin, Origin::Stdin) {
-            self.sources.read_with(rt, package, text)
+            self.sources.read_with(rt, package, text)?;
+        } else if self.sources.is_of(package) {
+            return Ok(());
         } else {
-            self.sources.read(rt, package, text)
+            self.sources.read(rt, package, text)?;
         }
+        let no_facts = Facts::new();
+        let facts = &self.sources.facts;
+        self.certain = certain_table(&self.options.table, facts, &no_facts)?;
+        Ok(())
+    }
+
+    /// Returns whether the sources of the package of a file are read, allow no lint that asks for
+    /// inlining, and leave a macro in doubt that the text may call.
+    #[inline(never)]
+    pub fn leaves_doubt(&self, text: &str, rules: FileRules) -> bool {
+        self.sources.is_of(package_of(&self.packages, rules))
+            && !self.sources.allows_arguments
+            && may_call_others(text, &self.options.table, &self.certain)
+    }
+
+    /// Takes the faults out of a report on a file that are of other macros. Without a package its
+    /// text alone can give a name to one.
+    #[inline(never)]
+    fn drop_others(
+        &mut self,
+        rt: &crate::shim::host::HostRuntime,
+        text: &str,
+        origin: Origin<'_>,
+        rules: FileRules,
+        report: &mut Report,
+    ) -> Result<(), AllocError> {
+        let may_give = may_give(text);
+        if rules.package.is_none() && !may_give {
+            return self.sources.read_attributes(rt, text);
+        }
+        self.read_sources(rt, text, origin, rules)?;
+        let (options, facts) = (&self.options, &self.sources.facts);
+        let mut table = likely_table(&options.table, facts, facts)?;
+        if rules.package.is_some() {
+            let mut file_facts = Facts::new();
+            if may_give {
+                file_facts = file_facts.with_file(text)?;
+            }
+            table = likely_table(&options.table, facts, &file_facts)?;
+        }
+        drop_unlikely(text, options, table, report)
     }
 
     /// Takes the faults out of a report on a file that are not to be reported. The sources of the
     /// package are read only if there are faults.
+    #[inline(never)]
     pub(crate) fn drop_unwanted(
         &mut self,
         rt: &crate::shim::host::HostRuntime,
@@ -87,8 +145,7 @@ impl<'a> Run<'a> {
         if report.findings.is_empty() {
             return Ok(());
         }
-        self.read_sources(rt, text, origin, rules)?;
-        drop_unlikely(text, &self.options, &self.sources.facts, report)?;
+        self.drop_others(rt, text, origin, rules, report)?;
         if self.sources.allows_positions {
             report.findings.retain(|finding| finding.id != POSITION_ID);
         }

@@ -12,6 +12,7 @@ use std::process::ExitCode;
 
 /// Returns the command-line arguments after the program's name. Returns `Err` if they are not
 /// available or an allocation fails.
+#[inline(never)]
 fn words(rt: &crate::shim::host::HostRuntime) -> Result<Vec<String>, RunFault> {
     let mut words = match env::args(rt) {
         Ok(words) => words,
@@ -28,6 +29,7 @@ fn answer(rt: &crate::shim::host::HostRuntime) -> Result<bool, RunFault> {
     run(&mut rt.stdin(), &mut rt.stdout(), words.as_slice())
 }
 
+#[inline(never)]
 pub fn main(rt: crate::shim::host::HostRuntime) -> ExitCode {
     let verdict = verdict(&answer(&rt));
     if !verdict.message.is_empty() {

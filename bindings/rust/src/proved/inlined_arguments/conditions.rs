@@ -39,6 +39,7 @@ fn have_comment(arguments: &[Argument<'_>]) -> bool {
 }
 
 /// Returns the reason in its list of arguments why a call is left, or `None` if there is none.
+#[inline(never)]
 fn list_condition(call: &Call<'_>, allows_mixed: bool) -> Option<Obstacle> {
     if !call.is_counted {
         return Some(Obstacle::Uncounted);
@@ -56,6 +57,7 @@ fn list_condition(call: &Call<'_>, allows_mixed: bool) -> Option<Obstacle> {
 }
 
 /// Returns whether a text is `{}`.
+#[inline(never)]
 fn is_bare(text: &str) -> bool {
     let Some(('{', rest)) = split_first(text) else {
         return false;
@@ -67,6 +69,7 @@ fn is_bare(text: &str) -> bool {
 }
 
 /// Returns the reason in its macro and its string why a call is left, or `None` if there is none.
+#[inline(never)]
 fn string_condition(call: &Call<'_>) -> Option<Obstacle> {
     if !call.string.captures_variables {
         return Some(Obstacle::CapturesNone);

@@ -9,6 +9,7 @@ use crate::shim::prelude::*;
 
 /// Returns bytes with edits, or `None` if these are not one after the other in the bytes, or
 /// overlap.
+#[inline(never)]
 fn edited_bytes(bytes: &[u8], edits: &[Edit]) -> Result<Option<Vec<u8>>, AllocError> {
     let mut out = Vec::made_for(bytes.len())?;
     let mut at = 0;
@@ -29,6 +30,7 @@ fn edited_bytes(bytes: &[u8], edits: &[Edit]) -> Result<Option<Vec<u8>>, AllocEr
 
 /// Returns a literal with edits, or `None` if these are not one after the other in it, overlap or
 /// cut a character.
+#[inline(never)]
 pub fn apply_edits(literal: &str, edits: &[Edit]) -> Result<Option<String>, AllocError> {
     match edited_bytes(literal.as_bytes(), edits)? {
         Some(bytes) => Ok(String::from_utf8(bytes).ok()),

@@ -4,7 +4,7 @@
 // That source has the contracts, and is proved. That this text means the same is only tested.
 
 use crate::proved::inlined_arguments::call::Edit;
-use crate::proved::inlined_arguments::meaning::CallMeaning;
+use crate::proved::inlined_arguments::meaning::{is_same_text, CallMeaning};
 use crate::proved::inlined_arguments::slots::Value;
 use crate::proved::inlined_arguments::values::{amount_of, position_value, Amount, Values};
 use crate::proved::rustc_parse_format::{Argument, Count, Piece, Position};
@@ -16,49 +16,58 @@ use core::ops::Range;
 /// How a part of a placeholder refers to an argument.
 #[derive(Clone, Copy)]
 enum Reference<'a> {
-    /// By a name.
-    Name(&'a str),
+    /// By a name that is written.
+    WrittenName(&'a str),
     /// By an index that is written.
-    Index(usize),
+    WrittenIndex(usize),
     /// As to the next one, or not at all.
-    Other,
+    Unwritten,
 }
 
 /// Returns how a position refers to an argument.
+#[inline(never)]
 fn position_reference<'a>(position: &Position<'a>) -> Reference<'a> {
     match position {
-        Position::ArgumentNamed(name) => Reference::Name(name),
-        Position::ArgumentIs(n) => Reference::Index(*n),
-        Position::ArgumentImplicitlyIs(_) => Reference::Other,
+        Position::ArgumentNamed(name) => Reference::WrittenName(name),
+        Position::ArgumentIs(n) => Reference::WrittenIndex(*n),
+        Position::ArgumentImplicitlyIs(_) => Reference::Unwritten,
     }
 }
 
 /// Returns how a width or a precision refers to an argument.
+#[inline(never)]
 fn count_reference<'a>(count: &Count<'a>) -> Reference<'a> {
     match count {
-        Count::CountIsName(name, _) => Reference::Name(name),
-        Count::CountIsParam(n) => Reference::Index(*n),
-        Count::CountIs(_) | Count::CountIsStar(_) | Count::CountImplied => Reference::Other,
+        Count::CountIsName(name, _) => Reference::WrittenName(name),
+        Count::CountIsParam(n) => Reference::WrittenIndex(*n),
+        Count::CountIs(_) | Count::CountIsStar(_) | Count::CountImplied => Reference::Unwritten,
     }
+}
+
+/// Returns a name as a text of its own.
+#[inline]
+fn name_text(name: &str) -> Result<String, AllocError> {
+    Ok(String::made_from(name)?)
 }
 
 /// Returns the new text of a reference to this value, or `None` if it stays as it is: a name that
 /// is that of the variable already, an index that stays the same, or the next argument.
+#[inline(never)]
 fn new_text(reference: Reference<'_>, value: Value<'_>) -> Result<Option<String>, AllocError> {
     match (value, reference) {
-        (Value::Variable(name), Reference::Name(other)) => {
-            if name == other {
+        (Value::Variable(name), Reference::WrittenName(other)) => {
+            if is_same_text(name, other) {
                 return Ok(None);
             }
-            Ok(Some(String::made_from(name)?))
+            Ok(Some(name_text(name)?))
         }
-        (Value::Variable(name), _) => Ok(Some(String::made_from(name)?)),
-        (Value::Expression { number, .. }, Reference::Index(n)) => {
-            if n == number {
+        (Value::Variable(name), _) => Ok(Some(name_text(name)?)),
+        (Value::Expression(index), Reference::WrittenIndex(n)) => {
+            if n == index {
                 return Ok(None);
             }
             let mut digits = Buffer::new();
-            Ok(Some(String::made_from(digits.format(number))?))
+            Ok(Some(String::made_from(digits.format(index))?))
         }
         _ => Ok(None),
     }
@@ -80,6 +89,7 @@ fn push_edit(
 }
 
 /// Adds the edit of the position of a placeholder, if it does not stay as it is.
+#[inline(never)]
 fn push_position<'a>(
     edits: &mut Vec<Edit>,
     values: &Values<'_, 'a>,
@@ -94,41 +104,41 @@ fn push_position<'a>(
 }
 
 /// Returns the text of a width or a precision that is an argument, or `None` if it stays as it is.
-/// `opening` is what the text begins with: the dot of a precision.
-fn count_text<'a>(
-    values: &Values<'_, 'a>,
-    count: &Count<'a>,
-    opening: &str,
+/// `dot` is what the text begins with: the dot of a precision.
+#[inline(never)]
+fn count_text(
+    reference: Reference<'_>,
+    amount: Amount<'_>,
+    dot: &str,
 ) -> Result<Option<String>, AllocError> {
-    let Amount::ValueOf(Some(value)) = amount_of(values, count) else {
+    let Amount::ValueOf(Some(value)) = amount else {
         return Ok(None);
     };
-    let Some(argument) = new_text(count_reference(count), value)? else {
-        return Ok(None);
-    };
-    let mut text = String::made_from(opening)?;
-    text.try_push_str(&argument)?;
-    text.try_push('$')?;
-    Ok(Some(text))
+    match new_text(reference, value)? {
+        Some(text) => Ok(Some(crate::shim::try_format!("{dot}{text}$")?)),
+        None => Ok(None),
+    }
 }
 
 /// Adds the edit of a width or a precision at a place of the literal, if it does not stay as it is.
-/// `opening` is what its text begins with.
+/// `dot` is what its text begins with.
+#[inline(never)]
 fn push_count<'a>(
     edits: &mut Vec<Edit>,
     values: &Values<'_, 'a>,
     count: &Count<'a>,
     span: &Option<Range<usize>>,
-    opening: &str,
+    dot: &str,
 ) -> Result<(), AllocError> {
     if let Some(span) = span {
-        let text = count_text(values, count, opening)?;
+        let text = count_text(count_reference(count), amount_of(values, count), dot)?;
         push_edit(edits, span, text)?;
     }
     Ok(())
 }
 
 /// Adds the edits of a piece.
+#[inline(never)]
 fn push_piece<'a>(
     edits: &mut Vec<Edit>,
     values: &Values<'_, 'a>,

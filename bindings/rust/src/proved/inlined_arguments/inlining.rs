@@ -37,6 +37,7 @@ fn is_same_style(left: Option<usize>, right: Option<usize>) -> bool {
 
 /// Returns whether nothing is wrong with a call with this string and these slots, and it means what
 /// the old one does. The given arguments are those of the slots.
+#[inline(never)]
 fn means_same_with<'c>(
     old: CallMeaning<'_, '_>,
     string: FormatString<'c>,
@@ -56,6 +57,7 @@ fn means_same_with<'c>(
 
 /// Returns whether a call with this literal in place of its own, and without the arguments that are
 /// variables, means what the old one does.
+#[inline(never)]
 fn keeps_meaning(
     call: Call<'_>,
     old: CallMeaning<'_, '_>,
@@ -83,6 +85,7 @@ fn keeps_meaning(
 /// Returns a call with its arguments that are variables in its format string, or why it is left as
 /// it is, if it is not for a reason that is seen without reading its string. The slots and the
 /// given arguments are those of the call.
+#[inline(never)]
 fn inline_with<'c>(
     call: Call<'c>,
     slots: &[Slot<'c>],
@@ -119,6 +122,7 @@ fn inline_with<'c>(
 /// Returns `Err` if an allocation fails.
 ///
 /// The number of hashes, the length of the text in bytes, and 2 must together fit into a `usize`.
+#[inline(never)]
 pub fn inline_arguments(
     call: Call<'_>,
     allows_mixed: bool,

@@ -4,6 +4,7 @@
 // That source has the contracts, and is proved. That this text means the same is only tested.
 
 /// Returns whether a word is a keyword that stands in expressions.
+#[inline(never)]
 fn is_in_expressions(word: &str) -> bool {
     word == "as"
         || word == "async"
@@ -23,6 +24,7 @@ fn is_in_expressions(word: &str) -> bool {
 }
 
 /// Returns whether a word is a keyword that begins or joins statements and branches.
+#[inline(never)]
 fn is_in_statements(word: &str) -> bool {
     word == "else"
         || word == "for"
@@ -37,6 +39,7 @@ fn is_in_statements(word: &str) -> bool {
 }
 
 /// Returns whether a word is a keyword that stands in items.
+#[inline(never)]
 fn is_in_items(word: &str) -> bool {
     word == "const"
         || word == "enum"
@@ -54,6 +57,7 @@ fn is_in_items(word: &str) -> bool {
 }
 
 /// Returns whether a word is a keyword without a use.
+#[inline(never)]
 fn is_reserved(word: &str) -> bool {
     word == "abstract"
         || word == "become"

@@ -10,26 +10,34 @@ use crate::proved::rustc_parse_format::laws::{
 };
 use crate::proved::rustc_parse_format::{Argument, DebugHex, FormatSpec, Piece, Sign};
 
+/// Returns whether two texts are the same.
+#[inline]
+pub(crate) fn is_same_text(left: &str, right: &str) -> bool {
+    left == right
+}
+
 /// Returns whether two values are the same.
+#[inline(never)]
 fn is_same_value(left: Value<'_>, right: Value<'_>) -> bool {
     match (left, right) {
-        (Value::Variable(left), Value::Variable(right)) => left == right,
-        (Value::Expression { index: left, .. }, Value::Expression { index: right, .. }) => {
-            left == right
-        }
+        (Value::Variable(left), Value::Variable(right)) => is_same_text(left, right),
+        (Value::Expression(left), Value::Expression(right)) => left == right,
         _ => false,
     }
 }
 
-/// Returns whether two values are there and the same.
+/// Returns whether two values are the same, or neither is there.
+#[inline(never)]
 fn are_same_values(left: Option<Value<'_>>, right: Option<Value<'_>>) -> bool {
     match (left, right) {
         (Some(left), Some(right)) => is_same_value(left, right),
+        (None, None) => true,
         _ => false,
     }
 }
 
 /// Returns whether two widths or precisions are the same.
+#[inline(never)]
 fn are_same_amounts(left: Amount<'_>, right: Amount<'_>) -> bool {
     match (left, right) {
         (Amount::Number(left), Amount::Number(right)) => left == right,
@@ -49,6 +57,7 @@ fn are_same_fills(left: Option<char>, right: Option<char>) -> bool {
 }
 
 /// Returns whether two signs are the same.
+#[inline(never)]
 fn are_same_signs(left: Option<Sign>, right: Option<Sign>) -> bool {
     match (left, right) {
         (None, None) => true,
@@ -58,6 +67,7 @@ fn are_same_signs(left: Option<Sign>, right: Option<Sign>) -> bool {
 }
 
 /// Returns whether two flags of the type `?` are the same.
+#[inline(never)]
 fn are_same_hexes(left: Option<DebugHex>, right: Option<DebugHex>) -> bool {
     match (left, right) {
         (None, None) => true,
@@ -68,6 +78,7 @@ fn are_same_hexes(left: Option<DebugHex>, right: Option<DebugHex>) -> bool {
 
 /// Returns whether two specifications are the same but for their width, their precision and their
 /// places.
+#[inline(never)]
 fn are_same_flags(left: &FormatSpec<'_>, right: &FormatSpec<'_>) -> bool {
     are_same_fills(left.fill, right.fill)
         && alignments_are_equal(&left.align, &right.align)
@@ -75,7 +86,7 @@ fn are_same_flags(left: &FormatSpec<'_>, right: &FormatSpec<'_>) -> bool {
         && left.alternate == right.alternate
         && left.zero_pad == right.zero_pad
         && are_same_hexes(left.debug_hex, right.debug_hex)
-        && left.ty == right.ty
+        && is_same_text(left.ty, right.ty)
 }
 
 /// A format string and the values that it refers to.
@@ -88,6 +99,7 @@ pub(crate) struct CallMeaning<'s, 'a> {
 }
 
 /// Returns whether two placeholders mean the same.
+#[inline(never)]
 fn are_same_uses<'a, 'b>(
     left_values: &Values<'_, 'a>,
     left: &Argument<'a>,
@@ -107,6 +119,7 @@ fn are_same_uses<'a, 'b>(
 }
 
 /// Returns whether two pieces mean the same.
+#[inline(never)]
 fn are_same_parts<'a, 'b>(
     left_values: &Values<'_, 'a>,
     left: &Piece<'a>,
@@ -114,7 +127,7 @@ fn are_same_parts<'a, 'b>(
     right: &Piece<'b>,
 ) -> bool {
     match (left, right) {
-        (Piece::Lit(left), Piece::Lit(right)) => left == right,
+        (Piece::Lit(left), Piece::Lit(right)) => is_same_text(left, right),
         (Piece::NextArgument(left), Piece::NextArgument(right)) => {
             are_same_uses(left_values, left, right_values, right)
         }
@@ -123,6 +136,7 @@ fn are_same_parts<'a, 'b>(
 }
 
 /// Returns whether two calls mean the same.
+#[inline(never)]
 pub(crate) fn means_same<'a, 'b>(left: CallMeaning<'_, 'a>, right: CallMeaning<'_, 'b>) -> bool {
     if left.pieces.len() != right.pieces.len() {
         return false;

@@ -14,13 +14,8 @@ use crate::shim::prelude::*;
 pub(crate) enum Value<'a> {
     /// The variable of this name.
     Variable(&'a str),
-    /// An argument that is no variable.
-    Expression {
-        /// Its index among all arguments.
-        index: usize,
-        /// Its index among those that are no variables.
-        number: usize,
-    },
+    /// An argument that is no variable, with its index among those that are none.
+    Expression(usize),
 }
 
 /// An argument as a place for a value.
@@ -32,32 +27,33 @@ pub(crate) struct Slot<'a> {
     pub value: Value<'a>,
 }
 
-/// Returns the value of an argument with these indices.
-fn slot_value<'a>(argument: &Argument<'a>, index: usize, number: usize) -> Value<'a> {
+/// Returns the value of an argument with this index among those that are no variables.
+fn slot_value<'a>(argument: &Argument<'a>, index: usize) -> Value<'a> {
     match variable(argument) {
         Some(name) => Value::Variable(name),
-        None => Value::Expression { index, number },
+        None => Value::Expression(index),
     }
 }
 
 /// Returns whether a value is no variable.
 #[inline]
 fn is_expression(value: Value<'_>) -> bool {
-    matches!(value, Value::Expression { .. })
+    matches!(value, Value::Expression(_))
 }
 
 /// Returns the slots of arguments.
+#[inline(never)]
 pub(crate) fn slots<'a>(arguments: &[Argument<'a>]) -> Result<Vec<Slot<'a>>, AllocError> {
     let mut slots = Vec::new();
-    let mut number = 0;
-    for (index, argument) in arguments.iter().enumerate() {
-        let value = slot_value(argument, index, number);
+    let mut kept_count = 0;
+    for argument in arguments {
+        let value = slot_value(argument, kept_count);
         slots.try_push(Slot {
             name: argument.name,
             value,
         })?;
         if is_expression(value) {
-            number += 1;
+            kept_count += 1;
         }
     }
     Ok(slots)
@@ -75,6 +71,7 @@ pub(crate) fn expression_slots<'a>(slots: &[Slot<'a>]) -> Result<Vec<Slot<'a>>, 
 }
 
 /// Returns slots as the arguments of a call.
+#[inline(never)]
 pub(crate) fn givens<'a>(slots: &[Slot<'a>]) -> Result<Vec<FormatArgument<'a>>, AllocError> {
     let mut arguments = Vec::new();
     for slot in slots {

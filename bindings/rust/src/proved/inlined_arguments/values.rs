@@ -46,6 +46,7 @@ fn insert<'a>(
 }
 
 /// Returns the values of slots.
+#[inline(never)]
 pub(crate) fn values_of<'s, 'a>(slots: &'s [Slot<'a>]) -> Result<Values<'s, 'a>, AllocError> {
     let mut named_values = BTreeMap::new();
     for slot in slots {
@@ -76,6 +77,7 @@ fn value_named<'a>(values: &Values<'_, 'a>, name: &'a str) -> Value<'a> {
 }
 
 /// Returns the value of a position, or `None` if it is an index that no argument has.
+#[inline(never)]
 pub(crate) fn position_value<'a>(
     values: &Values<'_, 'a>,
     position: &Position<'a>,
@@ -87,6 +89,7 @@ pub(crate) fn position_value<'a>(
 }
 
 /// Returns the amount that a width or a precision is.
+#[inline(never)]
 pub(crate) fn amount_of<'a>(values: &Values<'_, 'a>, count: &Count<'a>) -> Amount<'a> {
     match count {
         Count::CountIs(n) => Amount::Number(*n),

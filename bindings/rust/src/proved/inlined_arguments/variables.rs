@@ -41,6 +41,7 @@ fn named_in(name: &str) -> Option<&str> {
 }
 
 /// Returns the name of a raw identifier, or `None` if a word is none.
+#[inline(never)]
 fn raw_name(word: &str) -> Option<&str> {
     let Some(('r', rest)) = split_first(word) else {
         return None;
@@ -99,6 +100,7 @@ pub(crate) fn has_comment(argument: &Argument<'_>) -> bool {
 }
 
 /// Returns the indices of the arguments that are variables.
+#[inline(never)]
 pub(crate) fn variable_indices(arguments: &[Argument<'_>]) -> Result<Vec<usize>, AllocError> {
     let mut removed_indices = Vec::new();
     for (index, argument) in arguments.iter().enumerate() {

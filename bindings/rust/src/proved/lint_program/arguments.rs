@@ -43,6 +43,7 @@ fn when_of(matches: &ArgMatches<'_>) -> ColourChoice {
 
 /// Returns whether each stream to which tokens or drawings are written is a terminal. Drawings go
 /// to standard error where the output is tokens or a literal.
+#[inline(never)]
 fn are_terminals(rt: &crate::shim::host::HostRuntime, matches: &ArgMatches<'_>) -> bool {
     match output_kind_of(matches) {
         OutputKind::Fix => rt.stderr().is_terminal(),
@@ -52,6 +53,7 @@ fn are_terminals(rt: &crate::shim::host::HostRuntime, matches: &ArgMatches<'_>) 
 }
 
 /// Returns whether tokens and drawings are in colours.
+#[inline(never)]
 pub fn has_colours(rt: &crate::shim::host::HostRuntime, matches: &ArgMatches<'_>) -> bool {
     let no_color = env::var(rt, "NO_COLOR").ok();
     let term = env::var(rt, "TERM").ok();
@@ -65,6 +67,7 @@ pub fn has_colours(rt: &crate::shim::host::HostRuntime, matches: &ArgMatches<'_>
 
 /// Returns how many columns the terminal that standard output is has, as the environment variable
 /// `COLUMNS` says, or `None` if it is no terminal or the variable is no positive number.
+#[inline(never)]
 fn terminal_width(rt: &crate::shim::host::HostRuntime) -> Option<usize> {
     if !rt.stdout().is_terminal() {
         return None;
@@ -78,6 +81,7 @@ fn terminal_width(rt: &crate::shim::host::HostRuntime) -> Option<usize> {
 
 /// Returns how many columns a row of a drawing has, or `None` if the word for it is no number.
 /// Without a word it has as many as the terminal, or [`WIDTH`].
+#[inline(never)]
 pub fn width_of(rt: &crate::shim::host::HostRuntime, matches: &ArgMatches<'_>) -> Option<usize> {
     match matches.get_str("width") {
         None => Some(terminal_width(rt).unwrap_or(WIDTH)),
@@ -86,6 +90,7 @@ pub fn width_of(rt: &crate::shim::host::HostRuntime, matches: &ArgMatches<'_>) -
 }
 
 /// Returns the form of messages, drawn in colours or not.
+#[inline(never)]
 pub fn form_of(matches: &ArgMatches<'_>, width: usize, colours: bool) -> Form {
     match matches.get_str("message-format").unwrap_or("human") {
         "short" => Form::Short,
@@ -103,6 +108,7 @@ pub fn form_of(matches: &ArgMatches<'_>, width: usize, colours: bool) -> Form {
 }
 
 /// Returns what is done with files that change, or `None` if none is to be changed.
+#[inline(never)]
 pub fn change_of(matches: &ArgMatches<'_>) -> Option<Change> {
     if !matches.get_flag("fix") && !matches.get_flag("inline") {
         None
@@ -124,6 +130,7 @@ pub fn file_of<'a>(matches: &ArgMatches<'a>) -> Option<&'a str> {
 }
 
 /// Returns which answer is shown for one string.
+#[inline(never)]
 fn output_kind_of(matches: &ArgMatches<'_>) -> OutputKind {
     if matches.get_flag("fix") {
         OutputKind::Fix
@@ -154,6 +161,7 @@ pub fn task_of<'a>(
 }
 
 /// Returns the arguments with which `formatread` writes the listing.
+#[inline(never)]
 pub fn list_words(matches: &ArgMatches<'_>) -> Result<Vec<String>, AllocError> {
     let mut words = Vec::new();
     words.try_push(String::made_from(mode_word(matches))?)?;
@@ -168,6 +176,7 @@ pub fn list_words(matches: &ArgMatches<'_>) -> Result<Vec<String>, AllocError> {
 }
 
 /// Returns whether a text can be the name of a macro: whether it is an identifier.
+#[inline(never)]
 fn is_name(text: &str) -> bool {
     match first_token(text) {
         Some(token) => matches!(token.kind, Kind::Ident) && token.span.end == text.len(),
@@ -176,6 +185,7 @@ fn is_name(text: &str) -> bool {
 }
 
 /// Returns the macro that a word `NAME:INDEX` means, or `None` if it means none.
+#[inline(never)]
 fn row_of(word: &str) -> Option<Row<'_>> {
     let (name, index) = word.split_once(':')?;
     let index = index.parse::<usize>().ok()?;
@@ -187,6 +197,7 @@ fn row_of(word: &str) -> Option<Row<'_>> {
 
 /// Returns the macros that are known: those of the standard library and of some crates, and those
 /// that are given. The error is the first word that means none, or `None` if an allocation fails.
+#[inline(never)]
 pub fn table_of<'a>(words: &[&'a str]) -> Result<Table<'a>, Option<&'a str>> {
     let Ok(mut table) = Table::standard() else {
         return Err(None);

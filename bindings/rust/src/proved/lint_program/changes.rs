@@ -80,6 +80,7 @@ fn step_result<T>(step: &'static str, answer: io::Result<T>) -> Result<T, StepFa
 
 /// Returns the name of the file, or its start, whose old text is in a file of this name, or `None`
 /// if no run of this program gives such a name.
+#[inline(never)]
 pub fn name_before(name: &str) -> Option<&str> {
     let (front, number) = name.strip_prefix('.')?.rsplit_once(MARK)?;
     let is_number = number.len() == DIGITS && number.chars().all(|c| c.is_ascii_hexdigit());
@@ -91,7 +92,8 @@ pub fn name_before(name: &str) -> Option<&str> {
 }
 
 /// Returns a path beside another one, which cannot be foretold. A name that would be too long has
-/// only the start of the other name.
+/// only the start of the other name, and so has one of a name that is not UTF-8.
+#[inline(never)]
 fn path_beside(rt: &crate::shim::host::HostRuntime, path: &str) -> io::Result<String> {
     let mut bytes = [0u8; 8];
     rt.fill_bytes(&mut bytes)?;
@@ -101,7 +103,8 @@ fn path_beside(rt: &crate::shim::host::HostRuntime, path: &str) -> io::Result<St
     }
     let (folder, name) = path.rsplit_once('/').unwrap_or((".", path));
     let most = MOST_NAME.saturating_sub(MARK.len() + DIGITS + 1);
-    let front = name.get(..name.boundary_at_most(most)).unwrap_or("");
+    let (plain, _) = name.split_once('\0').unwrap_or((name, ""));
+    let front = plain.get(..plain.boundary_at_most(most)).unwrap_or("");
     Ok(crate::shim::try_format!(
         "{folder}/.{front}{MARK}{number:016x}"
     )?)
@@ -124,6 +127,7 @@ impl OldText {
     /// Writes an old text into a new file beside another one, which only its owner may read.
     /// Returns `None` if the system lets nobody make a file there, and after an error there is
     /// none.
+    #[inline(never)]
     fn write(
         rt: &crate::shim::host::HostRuntime,
         path: &str,
@@ -132,7 +136,7 @@ impl OldText {
         let path = path_beside(rt, path)?;
         let mut options = OpenOptions::new();
         options.write(true).create_new(true).mode(0o600);
-        let old_text = match options.open(rt, path.as_str()) {
+        let old_text = match fs::open_with(rt, &options, path.as_str()) {
             Ok(file) => OldText { file, path },
             Err(error) if is_refused(&error) => return Ok(None),
             Err(error) => return Err(error),
@@ -147,6 +151,7 @@ impl OldText {
     }
 
     /// Writes the text, and finds out whether the file lies where it was to be made.
+    #[inline(never)]
     fn fill(&self, rt: &crate::shim::host::HostRuntime, text: &[u8]) -> io::Result<()> {
         if real_path(rt, &self.file, self.path.as_str())? != self.path {
             return Err(io::Error::from(ErrorKind::NotFound));
@@ -155,6 +160,7 @@ impl OldText {
     }
 
     /// Removes the file, wherever it lies now, unless another program has removed it.
+    #[inline(never)]
     fn remove(&self, rt: &crate::shim::host::HostRuntime) -> io::Result<()> {
         let path = real_path(rt, &self.file, self.path.as_str())?;
         match fs::remove_file(rt, path.as_str()) {
@@ -170,6 +176,7 @@ fn is_refused(error: &io::Error) -> bool {
 }
 
 /// Opens a file once more, to be read and written. It has to be the one that was read.
+#[inline(never)]
 fn open_again(
     rt: &crate::shim::host::HostRuntime,
     path: &str,
@@ -181,7 +188,7 @@ fn open_again(
     }
     let mut options = OpenOptions::new();
     options.read(true).write(true);
-    let file = step_result("opening it", options.open(rt, path))?;
+    let file = step_result("opening it", fs::open_with(rt, &options, path))?;
     if !is_same(&data, &step_result("opening it", file.metadata())?) {
         return Err(failure_of("another program moved it", None));
     }
@@ -189,6 +196,7 @@ fn open_again(
 }
 
 /// Returns whether a file has these bytes.
+#[inline(never)]
 fn has_bytes(rt: &crate::shim::host::HostRuntime, file: &File, bytes: &[u8]) -> io::Result<bool> {
     if file.metadata()?.len() != bytes.len() as u64 {
         return Ok(false);
@@ -200,6 +208,7 @@ fn has_bytes(rt: &crate::shim::host::HostRuntime, file: &File, bytes: &[u8]) -> 
 
 /// Gives a file the permissions again that it had before it was written, if the system took some
 /// away. Returns `Err` if it does not have them then.
+#[inline(never)]
 fn keep_permissions(file: &File, data: &Metadata) -> io::Result<()> {
     if file.metadata()?.permissions() == data.permissions() {
         return Ok(());
@@ -212,6 +221,7 @@ fn keep_permissions(file: &File, data: &Metadata) -> io::Result<()> {
 }
 
 /// Removes the file with an old text. If that fails, `failure` says where the file is.
+#[inline(never)]
 fn discard(
     rt: &crate::shim::host::HostRuntime,
     old_text: Option<OldText>,
@@ -228,6 +238,7 @@ fn discard(
 }
 
 /// Puts the old text back into a file, after an error in writing the new one.
+#[inline(never)]
 fn put_back(
     rt: &crate::shim::host::HostRuntime,
     file: &File,
@@ -249,6 +260,7 @@ fn put_back(
 
 /// Restores the permissions of a written file, which had this data, and removes the file with its
 /// old text.
+#[inline(never)]
 fn finish(
     rt: &crate::shim::host::HostRuntime,
     file: &File,
@@ -270,6 +282,7 @@ fn finish(
 
 /// Writes new bytes to the file that a path leads to. `source` is the open file from which the old
 /// bytes were read. The failure says which text the file has then.
+#[inline(never)]
 pub fn replace(
     rt: &crate::shim::host::HostRuntime,
     path: &str,

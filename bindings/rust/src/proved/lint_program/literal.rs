@@ -4,6 +4,7 @@
 // That source has the contracts, and is proved. That this text means the same is only tested.
 
 use crate::proved::drawn_lines::WIDTH;
+use crate::proved::file_paths::shown_path;
 use crate::proved::format_lint::run::run;
 use crate::proved::lint_program::arguments::{file_of, has_colours, list_words, task_of, width_of};
 use crate::proved::lint_program::failure::Failure;
@@ -22,6 +23,7 @@ use crate::shim::prelude::*;
 use std::io::{ErrorKind, Read, Write};
 
 /// Reads a stream to its end.
+#[inline(never)]
 fn read<R: Read>(rt: &crate::shim::host::HostRuntime, stream: R) -> Result<Vec<u8>, Failure> {
     let mut reader = Recorder::new(stream);
     match read_input(&mut reader) {
@@ -34,6 +36,7 @@ fn read<R: Read>(rt: &crate::shim::host::HostRuntime, stream: R) -> Result<Vec<u
 }
 
 /// Reads a file, or standard input.
+#[inline(never)]
 fn read_file(rt: &crate::shim::host::HostRuntime, file: Option<&str>) -> Result<Vec<u8>, Failure> {
     let Some(path) = file else {
         print_hint(rt);
@@ -47,6 +50,7 @@ fn read_file(rt: &crate::shim::host::HostRuntime, file: Option<&str>) -> Result<
 
 /// Returns the bytes of a file with each CRLF as the line feed that the compiler reads it as. A
 /// text that is no literal stays as it is.
+#[inline(never)]
 fn without_returns(matches: &ArgMatches<'_>, file: Vec<u8>) -> Result<Vec<u8>, AllocError> {
     if matches.get_flag("text") || !file.contains(&b'\r') {
         return Ok(file);
@@ -78,6 +82,7 @@ fn input(
 }
 
 /// Returns the bytes of an input that are listed: all of a text, or the literal in a file.
+#[inline(never)]
 fn listing_input<'a>(matches: &ArgMatches<'_>, input: &'a [u8]) -> &'a [u8] {
     if matches.get_flag("text") {
         return input;
@@ -89,6 +94,7 @@ fn listing_input<'a>(matches: &ArgMatches<'_>, input: &'a [u8]) -> &'a [u8] {
 }
 
 /// Returns the listing of an input, in the form that the arguments name.
+#[inline(never)]
 fn listing_of(matches: &ArgMatches<'_>, input: &[u8]) -> Result<Listing, RunFault> {
     let words = list_words(matches)?;
     let bytes = listing_input(matches, input);
@@ -127,6 +133,7 @@ fn answer_listing<W: Write>(
 }
 
 /// Writes the answer for an input that is not listed. Returns how many mistakes are left.
+#[inline(never)]
 fn answer_task<W: Write, E: Write>(
     rt: &crate::shim::host::HostRuntime,
     writer: &mut W,
@@ -150,6 +157,7 @@ fn answer_task<W: Write, E: Write>(
 
 /// Writes the answer for an input. Returns how many mistakes are left, and of a list 1 if a line is
 /// not of a piece.
+#[inline(never)]
 fn answer(
     rt: &crate::shim::host::HostRuntime,
     matches: &ArgMatches<'_>,
@@ -173,6 +181,7 @@ fn answer(
 }
 
 /// Appends the lines with the reason why there is no answer.
+#[inline(never)]
 fn put_reason(
     out: &mut String,
     path: &str,
@@ -201,6 +210,7 @@ const GONE: u8 = 141;
 const NO_PATH: &str = "  = help: without a PATH the string is read from standard input";
 
 /// Writes to standard error why there is no answer, and returns the exit status.
+#[inline(never)]
 pub fn print_failure(
     rt: &crate::shim::host::HostRuntime,
     path: &str,
@@ -234,12 +244,18 @@ fn print_other_count(rt: &crate::shim::host::HostRuntime, matches: &ArgMatches<'
 
 /// Reads one string, and writes the answer. Returns the exit status, or `None` if the value of
 /// `--args` is no list of arguments.
+#[inline(never)]
 pub fn literal_status(rt: &crate::shim::host::HostRuntime, matches: &ArgMatches<'_>) -> Option<u8> {
     let file = file_of(matches);
     let path = match file {
         Some(path) => path,
         None => matches.get_str("stdin-path").unwrap_or("<stdin>"),
     };
+    let shown_path = match shown_path(path) {
+        Ok(shown_path) => shown_path,
+        Err(error) => return Some(print_failure(rt, path, &[], &Failure::from(error))),
+    };
+    let path = shown_path.as_str();
     let bytes = match input(rt, matches, file) {
         Ok(bytes) => bytes,
         Err(failure) => {

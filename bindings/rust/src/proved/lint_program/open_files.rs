@@ -14,13 +14,11 @@ pub fn is_same(one: &Metadata, other: &Metadata) -> bool {
 }
 
 /// Returns the path from the root on, without links, that the system says an open file has now,
-/// whatever was renamed since it was opened. Returns `Err` if the system does not say it, or if it
-/// is not UTF-8.
+/// whatever was renamed since it was opened. Returns `Err` if the system does not say it.
 pub fn path_of(rt: &crate::shim::host::HostRuntime, file: &File) -> io::Result<String> {
     let number = file.as_raw_fd();
     let link = crate::shim::try_format!("/proc/self/fd/{number}")?;
-    let path = fs::read_link(rt, link.as_str())?;
-    Ok(String::made_from(path.as_str())?)
+    fs::read_link(rt, link.as_str())
 }
 
 /// Returns the same as `path_of`, or the path to which another one leads now if the system does
@@ -33,6 +31,5 @@ pub fn real_path(
     if let Ok(path) = path_of(rt, file) {
         return Ok(path);
     }
-    let path = fs::canonicalize(rt, path)?;
-    Ok(String::made_from(path.as_str())?)
+    fs::canonicalize(rt, path)
 }

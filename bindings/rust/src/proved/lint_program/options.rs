@@ -241,6 +241,7 @@ static OPTIONS: [Row; 24] = [
 ];
 
 /// Returns an option.
+#[inline(never)]
 fn option<'a>(row: &'a Row) -> Result<Arg<'a>, AllocError> {
     let mut arg = Arg::new(row.name).long(row.name).help(row.help);
     arg = match row.value {
@@ -273,6 +274,7 @@ fn with_options<'a>(command: Command<'a>) -> Result<Command<'a>, AllocError> {
 }
 
 /// Returns the options and the arguments of the program.
+#[inline(never)]
 pub fn command<'a>() -> Result<Command<'a>, AllocError> {
     let base = Command::new("formatlint")
         .bin_name("formatlint")?

@@ -20,6 +20,7 @@ pub struct Progress {
 impl Progress {
     /// Returns the progress of a run that begins now, without a line if standard error is no
     /// terminal.
+    #[inline(never)]
     pub fn new(rt: &crate::shim::host::HostRuntime) -> Progress {
         let start = if rt.stderr().is_terminal() {
             Instant::now(rt).ok()
@@ -33,6 +34,7 @@ impl Progress {
     }
 
     /// Returns whether the line is to be written.
+    #[inline(never)]
     fn is_due(&self, rt: &crate::shim::host::HostRuntime) -> bool {
         match &self.start {
             Some(start) => match start.elapsed(rt) {
@@ -45,6 +47,7 @@ impl Progress {
 
     /// Writes how many files were read, if half a second has passed since the line was written or
     /// the run began.
+    #[inline(never)]
     pub fn show(&mut self, rt: &crate::shim::host::HostRuntime, files: usize) {
         if self.is_due(rt) {
             let _ = crate::shim::eprint_in!(rt; "\rformatlint: files read: {files}");

@@ -17,6 +17,7 @@ pub enum ColourChoice {
 /// Returns whether colours are wanted, by whether the output is a terminal and by the values of the
 /// variables `NO_COLOR` and `TERM`. With `Auto` they are if the output is a terminal, `NO_COLOR` is
 /// unset or empty, and `TERM` is set and not `dumb`.
+#[inline(never)]
 pub fn wants_colours(
     choice: ColourChoice,
     is_terminal: bool,

@@ -30,6 +30,7 @@ fn put_opening(out: &mut String, path: &str) -> Result<(), AllocError> {
 
 /// Returns the reason why there is no answer. For a read or a write that failed, `words` has the
 /// words of the system, if it has any.
+#[inline(never)]
 fn reason<'a>(fault: RunFault, words: &'a str) -> &'a str {
     match fault {
         RunFault::Read if words.is_empty() => "reading failed",
@@ -45,6 +46,7 @@ fn reason<'a>(fault: RunFault, words: &'a str) -> &'a str {
 
 /// Appends the line that says why there is no answer for the input with this path. For a read or a
 /// write that failed `words` has the words of the system, if it has any.
+#[inline(never)]
 pub fn put_failure(
     out: &mut String,
     path: &str,
@@ -75,6 +77,7 @@ fn put_place(out: &mut String, place: Place) -> Result<(), AllocError> {
 
 /// Appends the lines that say why the file with this path holds no string literal, at which place,
 /// and which option reads it as a text.
+#[inline(never)]
 pub fn put_not_literal(
     out: &mut String,
     path: &str,
@@ -90,6 +93,7 @@ pub fn put_not_literal(
 }
 
 /// Appends the line that says why the file with this path is not read from a place on.
+#[inline(never)]
 pub fn put_place_failure(
     out: &mut String,
     path: &str,

@@ -68,6 +68,7 @@ fn put_faults(out: &mut Vec<u8>, faults: &[Fault<'_>]) -> Result<(), AllocError>
 
 /// Makes the next call of a parser, and appends the lines of its piece and of its faults, which it
 /// also leaves in `faults`. Returns whether there is a piece.
+#[inline(never)]
 fn put_call<'a>(
     out: &mut Vec<u8>,
     parser: &mut Parser<'a>,
@@ -82,6 +83,7 @@ fn put_call<'a>(
 
 /// Appends the lines of the calls of a parser up to the first that returns no piece. Returns
 /// whether a fault is found.
+#[inline(never)]
 pub fn put_calls<'a>(out: &mut Vec<u8>, parser: &mut Parser<'a>) -> Result<bool, AllocError> {
     let mut argument = Argument::default();
     let mut faults = Vec::new();

@@ -19,6 +19,7 @@ fn put_note(writer: &mut Writer, note: &Option<String>) -> Result<(), AllocError
 }
 
 /// Appends a label and its span.
+#[inline(never)]
 fn put_label(writer: &mut Writer, label: &str, span: &Range<usize>) -> Result<(), AllocError> {
     writer.begin_object()?;
     put_string(writer, "label", label)?;
@@ -54,6 +55,7 @@ fn put_bare_mend(writer: &mut Writer, kind: &str) -> Result<(), AllocError> {
 }
 
 /// Appends the suggestion to replace a span by a text.
+#[inline(never)]
 fn put_reorder(writer: &mut Writer, span: &Range<usize>, text: &str) -> Result<(), AllocError> {
     begin_kind(writer, "reorder-format-parameter")?;
     put_span_of(writer, "span", span)?;
@@ -63,6 +65,7 @@ fn put_reorder(writer: &mut Writer, span: &Range<usize>, text: &str) -> Result<(
 }
 
 /// Appends a suggestion, or null if there is none.
+#[inline(never)]
 fn put_suggestion(writer: &mut Writer, suggestion: &Suggestion) -> Result<(), AllocError> {
     match suggestion {
         Suggestion::None => writer.null(),
@@ -77,6 +80,7 @@ fn put_suggestion(writer: &mut Writer, suggestion: &Suggestion) -> Result<(), Al
 }
 
 /// Appends the error of a fault with this id.
+#[inline(never)]
 fn put_error(writer: &mut Writer, id: &str, error: &ParseError) -> Result<(), AllocError> {
     begin_kind(writer, "fault")?;
     put_string(writer, "id", id)?;

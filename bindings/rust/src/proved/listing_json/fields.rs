@@ -29,6 +29,7 @@ pub fn put_number(writer: &mut Writer, name: &str, value: usize) -> Result<(), A
 }
 
 /// Appends a span.
+#[inline(never)]
 pub fn put_span(writer: &mut Writer, span: &Range<usize>) -> Result<(), AllocError> {
     writer.begin_object()?;
     put_number(writer, "start", span.start)?;
@@ -45,6 +46,7 @@ pub fn put_span_of(writer: &mut Writer, name: &str, span: &Range<usize>) -> Resu
 }
 
 /// Appends a key and a span, or null if there is none.
+#[inline(never)]
 pub fn put_maybe_span(
     writer: &mut Writer,
     name: &str,

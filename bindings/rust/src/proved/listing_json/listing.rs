@@ -33,6 +33,7 @@ fn snippet_of(literal: Option<&str>) -> Result<Option<String>, AllocError> {
 }
 
 /// Returns the arguments that the placeholders of a text use, if the task has a list of arguments.
+#[inline(never)]
 fn uses_in<'a>(
     text: &'a str,
     style: Option<usize>,
@@ -58,6 +59,7 @@ fn report_of<'a>(
 }
 
 /// Returns the lines of the calls of a parser and of a report.
+#[inline(never)]
 fn list_calls(parser: &mut Parser<'_>, report: &Report<'_>) -> Result<Listing, AllocError> {
     let mut bytes = Vec::new();
     let has_faults = put_calls(&mut bytes, parser)?;
@@ -69,6 +71,7 @@ fn list_calls(parser: &mut Parser<'_>, report: &Report<'_>) -> Result<Listing, A
 }
 
 /// Returns the listing of a text, with the literal that it is in if there is one.
+#[inline(never)]
 fn list_source(
     text: &str,
     style: Option<usize>,
@@ -83,6 +86,7 @@ fn list_source(
 
 /// Returns the listing of an input that is to be a string literal, perhaps with a newline after it.
 /// Returns `Err` if the input is not a string literal or an allocation fails.
+#[inline(never)]
 fn list_literal(input: &str, task: Task<'_>) -> Result<Listing, RunFault> {
     let literal = strip_newline(input);
     let Some(LiteralText { text, style }) = literal_text(literal)? else {
@@ -109,6 +113,7 @@ fn list_text(text: &str, task: Task<'_>) -> Result<Listing, RunFault> {
 /// The input may have at most 1,048,576 bytes. Returns `Err` if the words are invalid, if the input
 /// is too long, not UTF-8 or, with `--literal`, not a string literal, or if an allocation fails
 /// (`RunFault`, but neither `Read` nor `Write`).
+#[inline(never)]
 pub fn list(input: &[u8], words: &[String]) -> Result<Listing, RunFault> {
     let Some(task) = task_of(words) else {
         return Err(RunFault::Words);

@@ -15,6 +15,7 @@ use crate::shim::prelude::*;
 use core::ops::Range;
 
 /// Appends a position.
+#[inline(never)]
 fn put_position(writer: &mut Writer, position: &Position<'_>) -> Result<(), AllocError> {
     match position {
         Position::ArgumentImplicitlyIs(n) => put_index(writer, "implicit", *n),
@@ -32,6 +33,7 @@ fn put_count_number(writer: &mut Writer, number: u16) -> Result<(), AllocError> 
 }
 
 /// Appends a count that is the value of an argument with a name.
+#[inline(never)]
 fn put_count_name(writer: &mut Writer, name: &str, span: &Range<usize>) -> Result<(), AllocError> {
     begin_kind(writer, "name")?;
     writer.key("name")?;
@@ -42,6 +44,7 @@ fn put_count_name(writer: &mut Writer, name: &str, span: &Range<usize>) -> Resul
 }
 
 /// Appends a key and a width or a precision.
+#[inline(never)]
 fn put_count(writer: &mut Writer, name: &str, count: &Count<'_>) -> Result<(), AllocError> {
     writer.key(name)?;
     match count {
@@ -71,6 +74,7 @@ fn put_fill(writer: &mut Writer, fill: Option<char>) -> Result<(), AllocError> {
 }
 
 /// Appends an alignment, or null if none is given.
+#[inline(never)]
 fn put_align(writer: &mut Writer, align: Alignment) -> Result<(), AllocError> {
     match align {
         Alignment::AlignLeft => writer.string("left"),
@@ -81,6 +85,7 @@ fn put_align(writer: &mut Writer, align: Alignment) -> Result<(), AllocError> {
 }
 
 /// Appends a sign flag, or null if there is none.
+#[inline(never)]
 fn put_sign(writer: &mut Writer, sign: Option<Sign>) -> Result<(), AllocError> {
     match sign {
         Some(Sign::Plus) => writer.string("plus"),
@@ -97,6 +102,7 @@ fn put_flag(writer: &mut Writer, name: &str, flag: bool) -> Result<(), AllocErro
 }
 
 /// Appends the case of hexadecimal digits, or null if it is not given.
+#[inline(never)]
 fn put_hex(writer: &mut Writer, hex: Option<DebugHex>) -> Result<(), AllocError> {
     match hex {
         Some(DebugHex::Lower) => writer.string("lower"),
@@ -106,6 +112,7 @@ fn put_hex(writer: &mut Writer, hex: Option<DebugHex>) -> Result<(), AllocError>
 }
 
 /// Appends a format specification.
+#[inline(never)]
 fn put_format(writer: &mut Writer, format: &FormatSpec<'_>) -> Result<(), AllocError> {
     writer.begin_object()?;
     writer.key("fill")?;
@@ -140,6 +147,7 @@ fn put_run(writer: &mut Writer, text: &str) -> Result<(), AllocError> {
 }
 
 /// Appends a placeholder.
+#[inline(never)]
 fn put_placeholder(writer: &mut Writer, argument: &Argument<'_>) -> Result<(), AllocError> {
     begin_kind(writer, "placeholder")?;
     writer.key("position")?;

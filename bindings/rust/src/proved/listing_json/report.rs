@@ -44,6 +44,7 @@ fn put_names(out: &mut Vec<u8>, kind: &str, names: &[&str]) -> Result<(), AllocE
 }
 
 /// Appends a line for each entry of a report.
+#[inline(never)]
 pub fn put_report(out: &mut Vec<u8>, report: &Report<'_>) -> Result<(), AllocError> {
     put_indices(out, "missing-index", report.missing_index.as_slice())?;
     put_names(out, "missing-name", report.missing_name.as_slice())?;

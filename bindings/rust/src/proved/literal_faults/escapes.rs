@@ -17,6 +17,7 @@ fn hex_digit(c: char) -> Option<u32> {
 
 /// Returns the rest after the hexadecimal digit of a byte escape, or the fault if no digit comes
 /// next.
+#[inline(never)]
 fn after_digit(text: &str) -> Result<&str, FaultKind> {
     match split_first(text) {
         None => Err(FaultKind::UnterminatedString),
@@ -33,6 +34,7 @@ fn after_digit(text: &str) -> Result<&str, FaultKind> {
 }
 
 /// Returns the fault of a byte escape, by the text after its `\x`.
+#[inline(never)]
 fn byte_fault(text: &str) -> FaultKind {
     let first = match after_digit(text) {
         Ok(rest) => rest,
@@ -46,6 +48,7 @@ fn byte_fault(text: &str) -> FaultKind {
 
 /// Returns the number that the hexadecimal digits at the start of a text write, `_` between them
 /// aside, or `None` if there are more than `MOST_DIGITS`.
+#[inline(never)]
 fn number(text: &str) -> Option<u32> {
     let mut count = 0;
     let mut value: u32 = 0;
@@ -80,6 +83,7 @@ fn number_fault(text: &str) -> FaultKind {
 }
 
 /// Returns the rest of a text after the hexadecimal digits and `_` at its start.
+#[inline(never)]
 fn after_digits(text: &str) -> &str {
     let mut rest = text;
     while let Some((c, more)) = split_first(rest) {
@@ -92,6 +96,7 @@ fn after_digits(text: &str) -> &str {
 }
 
 /// Returns the fault of a Unicode escape, by the text after its opening brace.
+#[inline(never)]
 fn braces_fault(text: &str) -> FaultKind {
     match split_first(text) {
         Some(('_', _)) => return FaultKind::LeadingUnderscoreUnicodeEscape,
@@ -116,6 +121,7 @@ fn unicode_fault(text: &str) -> FaultKind {
 }
 
 /// Returns the fault of an escape, by the text after its backslash.
+#[inline(never)]
 pub fn escape_fault(text: &str) -> FaultKind {
     match split_first(text) {
         None => FaultKind::UnterminatedString,

@@ -80,6 +80,7 @@ fn trailing_fault(is_suffix: bool) -> FaultKind {
 
 /// Returns the fault at a place of an ordinary literal where no character and no escape comes next,
 /// or `None` if only the closing quote is left.
+#[inline(never)]
 fn stop_fault(text: &str) -> Option<FaultKind> {
     match split_first(text) {
         None => Some(FaultKind::UnterminatedString),
@@ -101,6 +102,7 @@ fn after_quote(text: &str) -> &str {
 }
 
 /// Returns the fault of a text that does not begin with a quote, or `None` if the text is empty.
+#[inline(never)]
 fn token_fault(text: &str) -> Option<LiteralFault> {
     let (token, _) = split_first_token(text)?;
     if token.kind != Kind::RawStr {
@@ -121,6 +123,7 @@ fn token_fault(text: &str) -> Option<LiteralFault> {
 
 /// Returns the fault of a text by the text after the quote at its start, or `None` if the text is
 /// an ordinary string literal.
+#[inline(never)]
 fn string_fault(text: &str, content: &str) -> Option<LiteralFault> {
     let stop = after_units(content);
     let kind = stop_fault(stop)?;
@@ -136,6 +139,7 @@ fn string_fault(text: &str, content: &str) -> Option<LiteralFault> {
 /// The fault is at the first place at which the text can no longer be read as a string literal. The
 /// rules are those of the Rust Reference, except that a raw literal may hold any character, and its
 /// own closing sequence too. White space after a literal is a fault. Does not allocate.
+#[inline(never)]
 pub fn literal_fault(text: &str) -> Option<LiteralFault> {
     if raw_text(text).is_some() {
         return None;

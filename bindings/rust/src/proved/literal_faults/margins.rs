@@ -33,6 +33,7 @@ fn after_mark(file: &str) -> &str {
 /// Returns the text of a file without the byte order mark at its start and without the ASCII white
 /// space before and after the rest: the literal, if the file has a string literal and nothing else.
 /// Does not allocate.
+#[inline(never)]
 pub fn snippet_of(file: &str) -> Snippet<'_> {
     let source = after_mark(file);
     let rest = source.after_ascii_space();
@@ -46,6 +47,7 @@ pub fn snippet_of(file: &str) -> Snippet<'_> {
 /// Returns the reason why a file does not hold a string literal alone, with its place in the file,
 /// or `None` if it does. A byte order mark at the start of the file and ASCII white space around
 /// the literal are skipped ([`snippet_of`]). Does not allocate.
+#[inline(never)]
 pub fn file_fault(file: &str) -> Option<LiteralFault> {
     let snippet = snippet_of(file);
     let fault = literal_fault(snippet.text)?;

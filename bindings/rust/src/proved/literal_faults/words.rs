@@ -9,6 +9,7 @@ use crate::shim::alloc::AllocError;
 use crate::shim::prelude::*;
 
 /// Returns the title where a token of this kind stands in place of a string literal.
+#[inline(never)]
 fn found_title(kind: Kind) -> &'static str {
     match kind {
         Kind::ByteStr | Kind::RawByteStr => {
@@ -24,6 +25,7 @@ fn found_title(kind: Kind) -> &'static str {
 }
 
 /// Returns the title of a fault: its message without the character that it may name.
+#[inline(never)]
 fn title(kind: FaultKind) -> &'static str {
     match kind {
         FaultKind::NoLiteral => "expected a string literal, found nothing",
@@ -63,6 +65,7 @@ fn named_character(kind: FaultKind) -> Option<char> {
 }
 
 /// Appends a character: printable ASCII as it is, and any other as an escape.
+#[inline(never)]
 fn put_shown_character(out: &mut String, c: char) -> Result<(), AllocError> {
     match c {
         ' '..='~' => out.try_push(c)?,
@@ -81,6 +84,7 @@ fn put_shown_character(out: &mut String, c: char) -> Result<(), AllocError> {
 impl FaultKind {
     /// Appends the message to a text: one line without its end, in ASCII and with no control
     /// character.
+    #[inline(never)]
     pub(crate) fn put_message(&self, out: &mut String) -> Result<(), AllocError> {
         out.try_push_str(title(*self))?;
         if let Some(c) = named_character(*self) {

@@ -109,14 +109,21 @@ pub fn is_certain(package_facts: &Facts, file_facts: &Facts, name: &[u8]) -> boo
     }
 }
 
+/// Returns whether a file gives the name of a crate of macros for logs to something else, or has a
+/// glob of `defmt`.
+fn gives_log_crate(file_facts: &Facts) -> bool {
+    let given = &file_facts.given;
+    has(given, b"defmt") || has(given, b"log") || has(given, b"tracing") || has(given, b"slog")
+}
+
 /// Returns whether no other macro of this name is in sight in a file of a package. It may be
 /// another one all the same, where [`is_certain`] is `false`.
 fn is_likely(package_facts: &Facts, file_facts: &Facts, name: &[u8]) -> bool {
     let Some(name) = kept_name(name) else {
         return true;
     };
-    let is_of_defmt = is_log_name(name) && has(&file_facts.given, b"defmt");
-    !(has(&package_facts.given, name) || has(&file_facts.given, name) || is_of_defmt)
+    let is_of_other = is_log_name(name) && gives_log_crate(file_facts);
+    !(has(&package_facts.given, name) || has(&file_facts.given, name) || is_of_other)
 }
 
 /// Returns whether a call of the macro of a row is one of it: for certain, or likely.

@@ -5,7 +5,7 @@
 
 use crate::proved::format_calls::is_word;
 use crate::proved::macro_owners::names::is_hygienic;
-use crate::proved::macro_owners::words::{is_mark, is_named, word_of};
+use crate::proved::macro_owners::words::{is_mark, is_named, is_notable, word_of};
 use crate::proved::rust_trees::{Side, Token};
 
 /// What stands before a token.
@@ -50,6 +50,7 @@ pub fn first_context<'a>() -> Context<'a> {
 }
 
 /// Returns whether a token goes on with the path before it.
+#[inline(always)]
 fn goes_on(context: Context<'_>, token: Token<'_>) -> bool {
     is_word(&token)
         && is_mark(context.last, b':')
@@ -58,6 +59,7 @@ fn goes_on(context: Context<'_>, token: Token<'_>) -> bool {
 }
 
 /// Returns the first word of the path that ends with a token, or `None` if none does.
+#[inline(always)]
 fn path_after<'a>(context: Context<'a>, token: Token<'a>) -> Option<Token<'a>> {
     if goes_on(context, token) || is_mark(Some(token), b':') {
         context.path_root
@@ -84,12 +86,14 @@ fn import_after<'a>(context: Context<'a>, token: Token<'a>) -> Option<Token<'a>>
 
 /// Returns whether a delimiter after this opens the arguments of a macro that may define others, or
 /// the arms of a definition.
+#[inline(always)]
 fn opens_macro(context: Context<'_>) -> bool {
     let name = word_of(context.previous);
     context.defines || is_mark(context.last, b'!') && name != b"".as_slice() && !is_hygienic(name)
 }
 
 /// Returns the number of delimiters that are open after a token.
+#[inline(always)]
 fn depth_after(context: Context<'_>, token: Token<'_>) -> usize {
     match token.side() {
         Side::Opens(_) if context.depth > 0 => context.depth.saturating_add(1),
@@ -142,6 +146,49 @@ impl<'a> Context<'a> {
             defines: defines(self),
             depth: depth_after(self, token),
         }
+    }
+
+    /// Returns whether a plain token after this only spoils names.
+    pub fn is_quiet(&self) -> bool {
+        !(is_named(self.previous, "as")
+            || is_notable(self.last)
+            || self.starts_import
+            || self.uses_macros
+            || self.defines)
+    }
+
+    /// Counts the delimiters that are open after a token, which opens no macro.
+    #[inline(always)]
+    fn count_delimiter(&mut self, token: Token<'a>) {
+        if self.depth == 0 {
+            return;
+        }
+        self.depth = depth_after(*self, token);
+    }
+
+    /// Goes on with the path before a token, ends it, or begins another one with the token.
+    #[inline(always)]
+    fn follow_path(&mut self, token: Token<'a>) {
+        if is_word(&token) {
+            self.goes_on = goes_on(*self, token);
+            if !self.goes_on {
+                self.path_root = Some(token);
+            }
+        } else {
+            self.goes_on = false;
+            if !is_mark(Some(token), b':') {
+                self.path_root = None;
+            }
+        }
+    }
+
+    /// Passes a plain token where it only spoils names.
+    #[inline(always)]
+    pub fn pass_quietly(&mut self, token: Token<'a>) {
+        self.count_delimiter(token);
+        self.follow_path(token);
+        self.previous = self.last;
+        self.last = Some(token);
     }
 
     /// Passes a token.

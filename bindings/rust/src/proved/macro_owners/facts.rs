@@ -7,7 +7,7 @@ use crate::proved::macro_owners::context::{defines, first_context, Context};
 use crate::proved::macro_owners::names::{
     is_error_crate, is_harmless, is_log_crate, is_owner, is_std_crate, kept_name, owns,
 };
-use crate::proved::macro_owners::words::{is_mark, is_named, word_of};
+use crate::proved::macro_owners::words::{is_mark, is_named, is_notable, word_of};
 use crate::proved::rust_trees::{Token, Tokens};
 use crate::shim::alloc::AllocError;
 use crate::shim::prelude::*;
@@ -189,6 +189,7 @@ fn used_name<'a>(context: Context<'a>, token: Token<'a>) -> &'a [u8] {
 }
 
 /// Returns whether a call of the last word may be of another macro.
+#[inline(always)]
 fn is_other_call(context: Context<'_>) -> bool {
     let name = word_of(context.last);
     context.goes_on && !owns(word_of(context.path_root), name)
@@ -196,6 +197,7 @@ fn is_other_call(context: Context<'_>) -> bool {
 }
 
 /// Returns whether the last word stands by itself, before this token.
+#[inline(always)]
 fn is_bare(context: Context<'_>, token: Token<'_>) -> bool {
     let previous = context.previous;
     !is_mark(Some(token), b'(')
@@ -203,6 +205,7 @@ fn is_bare(context: Context<'_>, token: Token<'_>) -> bool {
 }
 
 /// Returns the name that may be another macro's in this file, or nothing.
+#[inline(always)]
 fn spoiled_name<'a>(context: Context<'a>, token: Token<'a>) -> &'a [u8] {
     let is_call = is_mark(Some(token), b'!');
     let is_spoiled = if is_call {
@@ -234,6 +237,47 @@ fn add_token(facts: &mut Facts, context: Context<'_>, token: Token<'_>) -> Resul
     Ok(())
 }
 
+/// Returns whether a token is not notable, and no name of an import ends there.
+#[inline(always)]
+fn is_plain(context: Context<'_>, token: Token<'_>) -> bool {
+    let may_end_name = is_import(context)
+        && (is_end(token) || is_mark(Some(token), b'*') || is_mark(context.last, b'$'));
+    !(is_notable(Some(token)) || may_end_name)
+}
+
+/// Adds the name that a plain token spoils.
+#[inline(always)]
+fn put_spoiled(
+    names: &mut BTreeSet<&'static [u8]>,
+    context: Context<'_>,
+    token: Token<'_>,
+) -> Result<(), AllocError> {
+    if context.depth == 0 {
+        return Ok(());
+    }
+    put(names, spoiled_name(context, token))
+}
+
+/// Adds the facts of a token and passes it, where `was_quiet` may be true only if a plain token
+/// only spoils names. Returns whether the same is known of the next token, or `Err` if an
+/// allocation fails.
+#[inline(always)]
+fn pass_token<'a>(
+    facts: &mut Facts,
+    context: &mut Context<'a>,
+    token: Token<'a>,
+    was_quiet: bool,
+) -> Result<bool, AllocError> {
+    if was_quiet && is_plain(*context, token) {
+        put_spoiled(&mut facts.spoiled, *context, token)?;
+        context.pass_quietly(token);
+        return Ok(true);
+    }
+    add_token(facts, *context, token)?;
+    context.pass(token);
+    Ok(context.is_quiet())
+}
+
 impl Facts {
     /// Returns those of no files.
     pub(crate) fn new() -> Facts {
@@ -257,9 +301,9 @@ impl Facts {
         let mut facts = self;
         let mut rest = Tokens::new(text);
         let mut context = first_context();
+        let mut is_quiet = true;
         while let Some(token) = rest.next() {
-            add_token(&mut facts, context, token)?;
-            context.pass(token);
+            is_quiet = pass_token(&mut facts, &mut context, token, is_quiet)?;
         }
         Ok(facts)
     }

@@ -10,6 +10,9 @@ pub(crate) mod facts;
 pub(crate) mod names;
 pub(crate) mod words;
 
+pub use certain::is_certain;
+#[cfg(feature = "programs")]
 pub use certain::{certain_table, likely_table};
 pub use facts::Facts;
+#[cfg(feature = "programs")]
 pub use words::{is_mark, is_named};

@@ -4,6 +4,7 @@
 // That source has the contracts, and is proved. That this text means the same is only tested.
 
 use crate::proved::format_calls::{is_mark_of, is_word, word};
+use crate::proved::macro_owners::names::is_notable_word;
 use crate::proved::rust_trees::Token;
 
 /// Returns the bytes of a word, without `r#`, or nothing if the token is none.
@@ -25,5 +26,14 @@ pub fn is_mark(token: Option<Token<'_>>, mark: u8) -> bool {
     match token {
         Some(token) => is_mark_of(&token, mark),
         None => false,
+    }
+}
+
+/// Returns whether facts may come from a token or from those after it.
+#[inline(always)]
+pub fn is_notable(token: Option<Token<'_>>) -> bool {
+    match token {
+        Some(token) if is_word(&token) => is_notable_word(word(&token)),
+        _ => is_mark(token, b'!'),
     }
 }

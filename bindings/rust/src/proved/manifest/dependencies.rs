@@ -26,6 +26,7 @@ pub struct Dependency {
 }
 
 /// Returns the name of a crate in the sources.
+#[inline(never)]
 fn source_name(name: &str) -> Result<String, AllocError> {
     let mut out = String::made_for(name.len())?;
     for c in name.chars() {
@@ -35,6 +36,7 @@ fn source_name(name: &str) -> Result<String, AllocError> {
 }
 
 /// Returns the name of the package that a dependency gives, or `None` if that is its own name.
+#[inline(never)]
 fn package_name<'a>(name: &str, value: &'a Value, workspace: Option<&'a Value>) -> Option<&'a str> {
     if is_inherited(value) {
         let shared = workspace_table(workspace?)?.get("dependencies")?;
@@ -44,6 +46,7 @@ fn package_name<'a>(name: &str, value: &'a Value, workspace: Option<&'a Value>) 
 }
 
 /// Adds the dependencies of the tables in a value.
+#[inline(never)]
 fn add(
     value: &Value,
     workspace: Option<&Value>,
@@ -64,6 +67,7 @@ fn add(
 }
 
 /// Returns the dependencies of a package on each target, whose workspace has this manifest.
+#[inline(never)]
 pub fn package_dependencies(
     manifest: &Value,
     workspace: Option<&Value>,

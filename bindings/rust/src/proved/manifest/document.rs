@@ -16,6 +16,7 @@ pub enum Refusal {
 
 /// Returns the table that a text is in TOML 1.1, which cargo reads. A byte order mark is passed
 /// over. Returns `Err` if it is no TOML, or an allocation fails.
+#[inline(never)]
 pub fn read_toml(text: &str) -> Result<Value, Refusal> {
     match table_from_str(text) {
         Ok(members) => Ok(Value::Table(members)),

@@ -35,6 +35,7 @@ pub enum Misfit {
 
 /// Returns the text of a key of a package, which may be that of its workspace, or `None` if the key
 /// is absent. Returns `Err` if the value is none, with this reason if it is not the workspace's.
+#[inline(never)]
 fn text_of<'a>(
     manifest: &'a Value,
     workspace: Option<&'a Value>,
@@ -58,6 +59,7 @@ fn text_of<'a>(
 }
 
 /// Returns the edition of a package.
+#[inline(never)]
 fn edition_of(manifest: &Value, workspace: Option<&Value>) -> Result<Edition, Misfit> {
     match text_of(manifest, workspace, "edition", Misfit::Edition)? {
         None => Ok(Edition::Of2015),
@@ -69,6 +71,7 @@ fn edition_of(manifest: &Value, workspace: Option<&Value>) -> Result<Edition, Mi
 }
 
 /// Returns the oldest version of Rust that a package supports, or `None` if it names none.
+#[inline(never)]
 fn version_of(manifest: &Value, workspace: Option<&Value>) -> Result<Option<RustVersion>, Misfit> {
     match text_of(manifest, workspace, "rust-version", Misfit::RustVersion)? {
         None => Ok(None),
@@ -81,6 +84,7 @@ fn version_of(manifest: &Value, workspace: Option<&Value>) -> Result<Option<Rust
 
 /// Returns what a manifest says of its package, whose workspace has this manifest, or the key that
 /// has no value that cargo takes.
+#[inline(never)]
 pub fn package_facts(manifest: &Value, workspace: Option<&Value>) -> Result<PackageFacts, Misfit> {
     let edition = edition_of(manifest, workspace)?;
     // (whichever file it is, the editions of all targets are looked at)
@@ -89,10 +93,15 @@ pub fn package_facts(manifest: &Value, workspace: Option<&Value>) -> Result<Pack
     }
     let rust_version = version_of(manifest, workspace)?;
     let (allows_arguments, allows_positions) = match package_lints(manifest, workspace) {
-        Some(lints) => (
-            is_allowed(lints, "clippy", &["pedantic", "uninlined_format_args"]),
-            is_allowed(lints, "rust", &["named_arguments_used_positionally"]),
-        ),
+        Some(lints) => {
+            let allows_warnings = is_allowed(lints, "rust", &["warnings"]);
+            (
+                allows_warnings
+                    || is_allowed(lints, "clippy", &["pedantic", "uninlined_format_args"]),
+                allows_warnings
+                    || is_allowed(lints, "rust", &["named_arguments_used_positionally"]),
+            )
+        }
         None => (false, false),
     };
     Ok(PackageFacts {
@@ -105,6 +114,7 @@ pub fn package_facts(manifest: &Value, workspace: Option<&Value>) -> Result<Pack
 
 /// Returns the version of Rust that a clippy.toml names, or `None` if it names none. Returns `Err`
 /// if the name is no version.
+#[inline(never)]
 pub fn clippy_version(manifest: &Value) -> Result<Option<RustVersion>, Misfit> {
     let Some(value) = manifest.get("msrv") else {
         return Ok(None);

@@ -28,6 +28,7 @@ struct Level<'a> {
 }
 
 /// Returns the level that a value is, or `None` if it is none.
+#[inline(never)]
 fn level_of(value: &Value) -> Option<Level<'_>> {
     if let Value::String(name) = value {
         return Some(Level {
@@ -46,6 +47,7 @@ fn level_of(value: &Value) -> Option<Level<'_>> {
 /// Returns whether a table of lints allows a lint, by its own level and those of the groups in
 /// which it is: the level of the highest priority holds, and of two with the same priority the one
 /// whose name comes first in `names`. cargo sorts the names backwards.
+#[inline(never)]
 pub(crate) fn is_allowed(lints: &Value, tool: &str, names: &[&str]) -> bool {
     let Some(table) = lints.get(tool) else {
         return false;

@@ -121,6 +121,7 @@ struct FilePath<'a> {
 }
 
 /// Returns the parts of the path of a file.
+#[inline(never)]
 fn parts_of(path: &str) -> FilePath<'_> {
     match path.rsplit_once('/') {
         Some(("", name)) => FilePath { folder: "/", name },
@@ -157,6 +158,7 @@ impl FileRules {
 impl Packages {
     /// Returns the packages of files, which all have this edition unless it is `None`. A
     /// clippy.toml is looked for if variables are to be moved into format strings.
+    #[inline(never)]
     pub fn new(
         rt: &crate::shim::host::HostRuntime,
         edition: Option<&str>,
@@ -195,6 +197,7 @@ impl Packages {
     }
 
     /// Returns what the project says of the files of the last folder, and of this one of them.
+    #[inline(never)]
     fn rules_of(
         &self,
         rt: &crate::shim::host::HostRuntime,
@@ -225,14 +228,12 @@ impl Packages {
 
     /// Notes that the next files are those of a walk over a folder, which follows no links. An
     /// empty path is that of the current folder. Returns an error if an allocation fails.
+    #[inline(never)]
     pub fn enter(&mut self, rt: &crate::shim::host::HostRuntime, folder: &str) -> io::Result<()> {
         let path = String::made_from(folder.strip_suffix('/').unwrap_or(folder))?;
         let given = if folder.is_empty() { "." } else { folder };
         self.walked = match fs::canonicalize(rt, given) {
-            Ok(whole_path) => Some(WalkedFolder {
-                path,
-                whole_path: String::made_from(whole_path.as_str())?,
-            }),
+            Ok(whole_path) => Some(WalkedFolder { path, whole_path }),
             Err(_) => None,
         };
         Ok(())
@@ -245,6 +246,7 @@ impl Packages {
     }
 
     /// Returns the path from the root on of the folder of a file.
+    #[inline(never)]
     fn whole_path(&self, rt: &crate::shim::host::HostRuntime, folder: &str) -> io::Result<String> {
         if let Some(walked) = &self.walked {
             let whole_path = walked.whole_path.as_str();
@@ -256,16 +258,16 @@ impl Packages {
             let whole_path = whole_path.strip_suffix('/').unwrap_or(whole_path);
             return Ok(crate::shim::try_format!("{whole_path}/{rest}")?);
         }
-        let whole_path = match fs::canonicalize(rt, folder) {
-            Ok(path) => String::made_from(path.as_str())?,
-            Err(_) => String::made_from("/")?,
-        };
-        Ok(whole_path)
+        match fs::canonicalize(rt, folder) {
+            Ok(whole_path) => Ok(whole_path),
+            Err(_) => Ok(String::made_from("/")?),
+        }
     }
 
     /// Returns what the project says of the file with this path: its edition is that of all files,
     /// or that of its target in the nearest package above the file, 2021 without a package, and the
     /// newest one if a manifest was not understood. Returns an error if an allocation fails.
+    #[inline(never)]
     pub fn rules(
         &mut self,
         rt: &crate::shim::host::HostRuntime,

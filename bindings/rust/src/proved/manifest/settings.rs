@@ -42,6 +42,7 @@ pub(crate) fn is_inherited(value: &Value) -> bool {
 }
 
 /// Returns the setting that a value is, or that there is none.
+#[inline(never)]
 pub(crate) fn setting_of(value: Option<&Value>) -> Setting<'_> {
     match value {
         None => Setting::Absent,
@@ -60,6 +61,7 @@ pub fn package_setting<'a>(manifest: &'a Value, key: &str) -> Setting<'a> {
 }
 
 /// Returns the setting that a workspace gives its packages for a key.
+#[inline(never)]
 pub(crate) fn workspace_setting<'a>(manifest: &'a Value, key: &str) -> Setting<'a> {
     let Some(workspace) = workspace_table(manifest) else {
         return Setting::Absent;

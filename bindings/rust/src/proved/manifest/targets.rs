@@ -40,6 +40,7 @@ const AT_PATH: usize = usize::MAX;
 
 /// Returns how near a target with this path is to a file: the length of its folder, or `None` if
 /// the file is not below that.
+#[inline(never)]
 fn nearness(path: &str, file: &str) -> Option<usize> {
     if path == file {
         return Some(AT_PATH);
@@ -53,6 +54,7 @@ fn nearness(path: &str, file: &str) -> Option<usize> {
 
 /// Returns how near a target is to a file that names no path, and so has `NAME.rs` or
 /// `NAME/main.rs` in a folder.
+#[inline(never)]
 fn default_nearness(folder: &str, name: &str, file: &str) -> Option<usize> {
     let rest = file.strip_prefix(folder)?;
     match rest.strip_prefix(name) {
@@ -65,6 +67,7 @@ fn default_nearness(folder: &str, name: &str, file: &str) -> Option<usize> {
 }
 
 /// Returns whether cargo makes a target of the file at this path in the folder of its kind.
+#[inline(never)]
 fn is_own_target(folder: &str, file: &str) -> bool {
     let Some(rest) = file.strip_prefix(folder) else {
         return false;
@@ -76,6 +79,7 @@ fn is_own_target(folder: &str, file: &str) -> bool {
 }
 
 /// Returns how near to a file the target is that cargo makes without a table in the manifest.
+#[inline(never)]
 fn found_nearness(file: &str) -> usize {
     if matches!(file, "src/lib.rs" | "src/main.rs" | "build.rs") {
         return AT_PATH;
@@ -107,6 +111,7 @@ struct Search<'a> {
 
 impl Search<'_> {
     /// Looks at a target. Returns `None` if its edition is unknown.
+    #[inline(never)]
     fn add(&mut self, target: &Value, nearness: Option<usize>) -> Option<()> {
         let edition = match target.get("edition") {
             Some(name) => edition_named(name.as_str()?)?,
@@ -125,6 +130,7 @@ impl Search<'_> {
     }
 
     /// Looks at a target of a kind. Returns `None` if its edition is unknown.
+    #[inline(never)]
     fn add_of_kind(&mut self, kind: Kind, target: &Value, package: Option<&str>) -> Option<()> {
         let path = text_of(target, "path");
         let name = text_of(target, "name").unwrap_or("");
@@ -149,6 +155,7 @@ fn text_of<'a>(target: &'a Value, key: &str) -> Option<&'a str> {
 /// of the package: that of the target whose path this is, or otherwise of the one in whose folder
 /// the file is, the innermost, and of several the oldest edition. Returns `None` if a target has an
 /// edition that is unknown.
+#[inline(never)]
 pub fn target_edition(manifest: &Value, file: &str, package: Edition) -> Option<Edition> {
     let mut search = Search {
         file,

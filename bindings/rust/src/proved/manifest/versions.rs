@@ -25,6 +25,7 @@ impl Edition {
 }
 
 /// Returns the edition of a name, or `None` if there is none of this name.
+#[inline(never)]
 pub fn edition_named(name: &str) -> Option<Edition> {
     match name {
         "2015" => Some(Edition::Of2015),
@@ -46,6 +47,7 @@ pub struct RustVersion {
 
 /// Returns the number that a text is in decimal digits without leading zeros, or `None` if it is
 /// none or larger than a `u32`.
+#[inline(never)]
 fn number(text: &str) -> Option<u32> {
     if text.is_empty() || text.len() > 1 && text.starts_with('0') {
         return None;
@@ -59,6 +61,7 @@ fn number(text: &str) -> Option<u32> {
 
 /// Returns the version of Rust that one to three numbers with points between name, as in `1`,
 /// `1.58` and `1.58.1`, or `None` if the name is another one.
+#[inline(never)]
 pub fn version_named(name: &str) -> Option<RustVersion> {
     let Some((major, rest)) = name.split_once('.') else {
         return Some(RustVersion {

@@ -34,6 +34,7 @@ fn owned_string(text: Option<&str>) -> Result<Option<String>, AllocError> {
 }
 
 /// Returns the fault of a text that rustc shows, or `None` if it is in the grammar.
+#[inline(never)]
 fn fault_of<'a>(message: Message<'a, '_, '_>) -> Result<Option<Fault<'a>>, AllocError> {
     let snippet = owned_string(message.snippet)?;
     let mut parser = Parser::new(message.text, None, snippet, false, ParseMode::Diagnostic)?;
@@ -94,6 +95,7 @@ fn push_specifier<'a>(
 }
 
 /// Adds the fault of a name, if it is that of no parameter.
+#[inline(never)]
 fn push_name<'a>(
     faults: &mut Vec<MessageFault<'a>>,
     names: Option<&BTreeSet<&str>>,
@@ -109,6 +111,7 @@ fn push_name<'a>(
 }
 
 /// Adds the faults of a placeholder.
+#[inline(never)]
 fn push_placeholder<'a>(
     faults: &mut Vec<MessageFault<'a>>,
     names: Option<&BTreeSet<&str>>,
@@ -153,6 +156,7 @@ fn push_pieces<'a>(
 }
 
 /// Adds the faults of the placeholders of a text.
+#[inline(never)]
 fn push_placeholders<'a>(
     faults: &mut Vec<MessageFault<'a>>,
     message: Message<'a, '_, '_>,
@@ -166,6 +170,7 @@ fn push_placeholders<'a>(
 }
 
 /// Returns the faults of a text.
+#[inline(never)]
 fn faults_of<'a>(message: Message<'a, '_, '_>) -> Result<Vec<MessageFault<'a>>, AllocError> {
     let mut faults = Vec::new();
     match fault_of(message)? {

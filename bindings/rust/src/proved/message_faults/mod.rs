@@ -4,6 +4,7 @@
 // That source has the contracts, and is proved. That this text means the same is only tested.
 
 pub(crate) mod checker;
+pub(crate) mod diagnostics;
 pub(crate) mod faults;
 pub(crate) mod words;
 

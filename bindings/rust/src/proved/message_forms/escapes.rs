@@ -3,6 +3,7 @@
 // Extracted from crates/message_forms/src/escapes.rt by tools/extract: not to be edited.
 // That source has the contracts, and is proved. That this text means the same is only tested.
 
+use crate::proved::file_paths::path_bytes;
 use crate::proved::shown_text::{put_shown, Kind};
 use crate::shim::alloc::AllocError;
 use crate::shim::itoa::Buffer;
@@ -38,6 +39,7 @@ fn stays_in_uri(byte: u8) -> bool {
 }
 
 /// Adds a byte as a path of a URI has it.
+#[inline(never)]
 fn put_uri_byte(out: &mut String, byte: u8) -> Result<(), AllocError> {
     if stays_in_uri(byte) {
         return Ok(out.try_push(byte as char)?);
@@ -49,11 +51,12 @@ fn put_uri_byte(out: &mut String, byte: u8) -> Result<(), AllocError> {
 }
 
 /// Adds a path of a file as a URI: one from the root with its scheme, another as a relative one.
+#[inline(never)]
 pub fn put_uri(out: &mut String, path: &str) -> Result<(), AllocError> {
     if path.starts_with('/') {
         out.try_push_str("file://")?;
     }
-    for byte in path.as_bytes() {
+    for byte in &path_bytes(path)? {
         put_uri_byte(out, *byte)?;
     }
     Ok(())

@@ -18,6 +18,7 @@ fn put_property(out: &mut String, opening: &str, number: usize) -> Result<(), Al
 
 /// Appends the properties that say where a span is. Columns are only written where it is in one
 /// line.
+#[inline(never)]
 fn put_places(out: &mut String, span: &Span<'_>) -> Result<(), AllocError> {
     put_property(out, ",line=", span.start.line)?;
     if span.start.line == span.end.line {
@@ -31,6 +32,7 @@ fn put_places(out: &mut String, span: &Span<'_>) -> Result<(), AllocError> {
 
 /// Appends a message as a workflow command of GitHub Actions, which shows it beside the source:
 /// `::LEVEL file=PATH,line=LINE,col=COLUMN,endColumn=COLUMN::TITLE [ID]`.
+#[inline(never)]
 pub fn put_github(out: &mut String, message: &Message<'_>) -> Result<(), AllocError> {
     out.try_push_str("::")?;
     out.try_push_str(level_name(message.level))?;

@@ -14,6 +14,7 @@ use crate::shim::alloc::AllocError;
 use crate::shim::prelude::*;
 
 /// Adds a line of a span, which is between these columns there.
+#[inline(never)]
 fn put_line(out: &mut String, line: &str, from: usize, to: usize) -> Result<(), AllocError> {
     put_text(out, false, "text", line)?;
     put_count(out, true, "highlight_start", from)?;
@@ -46,6 +47,7 @@ fn length_of(text: &str) -> usize {
 
 /// Adds the lines of a span that begins and ends at these columns, where `line_count` lines come
 /// after the first one.
+#[inline(never)]
 fn put_lines(
     out: &mut String,
     lines: &str,
@@ -79,6 +81,7 @@ fn put_empty_array(out: &mut String) -> Result<(), AllocError> {
 }
 
 /// Adds the lines of a span, or no line if they are not shown.
+#[inline(never)]
 fn put_span_lines(out: &mut String, span: &Span<'_>) -> Result<(), AllocError> {
     let Some(lines) = span.lines else {
         return Ok(put_empty_array(out)?);
@@ -89,6 +92,7 @@ fn put_span_lines(out: &mut String, span: &Span<'_>) -> Result<(), AllocError> {
 }
 
 /// Adds the members that say where a span is.
+#[inline(never)]
 fn put_places(out: &mut String, path: &str, span: &Span<'_>) -> Result<(), AllocError> {
     put_text(out, false, "file_name", path)?;
     put_count(out, true, "byte_start", span.byte_start)?;
@@ -118,6 +122,7 @@ fn applicability(suggestion: &Option<Suggestion<'_>>) -> Option<&'static str> {
 }
 
 /// Adds the members of a span that come after its places, and the end of its object.
+#[inline(never)]
 fn put_details(out: &mut String, span: &Span<'_>) -> Result<(), AllocError> {
     put_truth(out, true, "is_primary", span.is_primary)?;
     put_key(out, true, "text")?;
@@ -140,6 +145,7 @@ fn put_span(out: &mut String, path: &str, span: &Span<'_>) -> Result<(), AllocEr
 }
 
 /// Adds spans.
+#[inline(never)]
 fn put_spans(out: &mut String, path: &str, spans: &[Span<'_>]) -> Result<(), AllocError> {
     out.try_push_str("[")?;
     let mut is_later = false;
@@ -153,6 +159,7 @@ fn put_spans(out: &mut String, path: &str, spans: &[Span<'_>]) -> Result<(), All
 }
 
 /// Adds a note or a help.
+#[inline(never)]
 fn put_child(out: &mut String, path: &str, child: &Child<'_, '_>) -> Result<(), AllocError> {
     put_text(out, false, "message", child.text)?;
     put_text_or_null(out, "code", None)?;
@@ -167,6 +174,7 @@ fn put_child(out: &mut String, path: &str, child: &Child<'_, '_>) -> Result<(), 
 }
 
 /// Adds notes and helps.
+#[inline(never)]
 fn put_children(
     out: &mut String,
     path: &str,
@@ -192,6 +200,7 @@ fn put_code(out: &mut String, id: &str) -> Result<(), AllocError> {
 }
 
 /// Adds the spans of a message, its notes and helps and its drawing, and the end of its object.
+#[inline(never)]
 fn put_below(
     out: &mut String,
     path: &str,
@@ -211,6 +220,7 @@ fn put_below(
 /// Appends a message as a line of JSON with the members that rustc writes with
 /// `--error-format=json`: its ranges, its notes and helps, and its drawing for people. Its id
 /// stands in the place of rustc's code.
+#[inline(never)]
 pub fn put_json(
     out: &mut String,
     message: &Message<'_>,

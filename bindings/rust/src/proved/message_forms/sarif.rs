@@ -27,6 +27,7 @@ fn put_plain_member(out: &mut String, key: &str, text: &str) -> Result<(), Alloc
 }
 
 /// Adds a region.
+#[inline(never)]
 fn put_region(out: &mut String, span: &Span<'_>) -> Result<(), AllocError> {
     put_count(out, false, "startLine", span.start.line)?;
     put_count(out, true, "startColumn", span.start.column)?;
@@ -52,6 +53,7 @@ fn put_artifact(out: &mut String, path: &str) -> Result<(), AllocError> {
 }
 
 /// Adds a range of a file.
+#[inline(never)]
 fn put_physical(out: &mut String, path: &str, span: &Span<'_>) -> Result<(), AllocError> {
     put_key(out, false, "artifactLocation")?;
     put_artifact(out, path)?;
@@ -78,6 +80,7 @@ fn put_locations(out: &mut String, path: &str, span: &Span<'_>) -> Result<(), Al
 }
 
 /// Adds a message as a result.
+#[inline(never)]
 fn put_result(out: &mut String, message: &Message<'_>) -> Result<(), AllocError> {
     put_text(out, false, "ruleId", message.id)?;
     put_text(out, true, "level", level_name(message.level))?;
@@ -108,6 +111,7 @@ fn explanation(rule: &Rule) -> Result<String, AllocError> {
 }
 
 /// Adds a rule.
+#[inline(never)]
 fn put_rule(out: &mut String, rule: &Rule) -> Result<(), AllocError> {
     let text = explanation(rule)?;
     put_text(out, false, "id", rule.id)?;
@@ -119,6 +123,7 @@ fn put_rule(out: &mut String, rule: &Rule) -> Result<(), AllocError> {
 }
 
 /// Adds rules.
+#[inline(never)]
 fn put_rules(out: &mut String, rules: &[Rule]) -> Result<(), AllocError> {
     out.try_push_str("[")?;
     let mut is_later = false;
@@ -132,6 +137,7 @@ fn put_rules(out: &mut String, rules: &[Rule]) -> Result<(), AllocError> {
 }
 
 /// Adds the program of this version.
+#[inline(never)]
 fn put_driver(out: &mut String, version: &str, rules: &[Rule]) -> Result<(), AllocError> {
     put_text(out, false, "name", "formatlint")?;
     put_text(out, true, "version", version)?;
@@ -150,6 +156,7 @@ fn put_tool(out: &mut String, version: &str, rules: &[Rule]) -> Result<(), Alloc
 }
 
 /// Adds the start of a run, up to its results.
+#[inline(never)]
 fn put_run_start(out: &mut String, version: &str, rules: &[Rule]) -> Result<(), AllocError> {
     put_key(out, false, "tool")?;
     put_tool(out, version, rules)?;
@@ -161,6 +168,7 @@ fn put_run_start(out: &mut String, version: &str, rules: &[Rule]) -> Result<(), 
 
 /// Appends the start of a log, up to its results, which [`put_sarif_result`] appends; after them
 /// [`put_sarif_end`] ends it.
+#[inline(never)]
 pub fn put_sarif_start(out: &mut String, version: &str, rules: &[Rule]) -> Result<(), AllocError> {
     put_text(
         out,
@@ -192,6 +200,7 @@ fn put_invocations(out: &mut String, is_whole: bool) -> Result<(), AllocError> {
 
 /// Appends the end of a log, from the end of its results on: whether the program could read all
 /// files (`is_whole`), and a line end.
+#[inline(never)]
 pub fn put_sarif_end(out: &mut String, is_whole: bool) -> Result<(), AllocError> {
     out.try_push_str("]")?;
     put_key(out, true, "invocations")?;

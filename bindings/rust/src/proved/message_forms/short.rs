@@ -19,6 +19,7 @@ fn put_place(out: &mut String, place: Place) -> Result<(), AllocError> {
 }
 
 /// Appends a message as a line that editors find places in: `PATH:LINE:COLUMN: LEVEL: TITLE [ID]`.
+#[inline(never)]
 pub fn put_short(out: &mut String, message: &Message<'_>) -> Result<(), AllocError> {
     put_shown(out, Kind::Line, message.path)?;
     out.try_push_str(":")?;

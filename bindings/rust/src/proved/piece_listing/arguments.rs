@@ -26,6 +26,7 @@ fn around_comma(text: &str) -> Option<(&str, &str)> {
 
 /// Returns the number that a text of at most `MOST_DIGITS` digits is, or `None` if it is no number
 /// or more than 65535.
+#[inline(never)]
 fn number(text: &str) -> Option<usize> {
     if text.len() > MOST_DIGITS || text.starts_with('+') {
         return None;
@@ -37,6 +38,7 @@ fn number(text: &str) -> Option<usize> {
 }
 
 /// Returns whether a text is a list of names that are separated by commas, none of them empty.
+#[inline(never)]
 fn are_names(text: &str) -> bool {
     let mut rest = text;
     while let Some((name, rest_after)) = around_comma(rest) {
@@ -49,6 +51,7 @@ fn are_names(text: &str) -> bool {
 }
 
 /// Returns the list of arguments that a word is, or `None` if it is none.
+#[inline(never)]
 pub fn given_arguments(word: &str) -> Option<GivenArguments<'_>> {
     let Some((digits, names)) = around_comma(word) else {
         let positional = number(word)?;
@@ -68,6 +71,7 @@ pub fn given_arguments(word: &str) -> Option<GivenArguments<'_>> {
 }
 
 /// Returns the parts of a text that are separated by commas.
+#[inline(never)]
 fn between_commas<'a>(text: &'a str) -> Result<Vec<&'a str>, AllocError> {
     let mut names = Vec::new();
     let mut rest = text;

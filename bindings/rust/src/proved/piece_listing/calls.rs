@@ -51,6 +51,7 @@ fn add_uses<'a>(
 
 /// Appends the lines of the pieces of a parser up to the first call that returns `None`, and adds
 /// the arguments that they use to `all_uses` if `compares_arguments` is set.
+#[inline(never)]
 pub fn put_calls<'a>(
     out: &mut String,
     all_uses: &mut Uses<'a>,

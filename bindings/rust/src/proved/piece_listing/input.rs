@@ -38,6 +38,7 @@ fn put_ends(
 
 /// Returns the listing of the pieces up to the first call of a parser that returns `None`, with the
 /// report on the arguments that are given.
+#[inline(never)]
 fn list_calls<'a>(
     parser: &mut Parser<'a>,
     arguments: Option<GivenArguments<'a>>,
@@ -75,6 +76,7 @@ fn list_text_of(
 /// Returns the listing of the text that the input stands for as a string literal, perhaps with a
 /// newline after it, as editors and shells end a line. Returns `Err` if the input is not a string
 /// literal or an allocation fails.
+#[inline(never)]
 fn list_literal(input: &str, task: Task<'_>) -> Result<Listing, RunFault> {
     let literal = strip_newline(input);
     let Some(LiteralText { text, style }) = literal_text(literal)? else {

@@ -46,6 +46,7 @@ fn put_span_at(out: &mut String, span: &Option<Range<usize>>) -> Result<(), Allo
 }
 
 /// Adds the first word of the line of a placeholder, and then its position.
+#[inline(never)]
 fn put_position(out: &mut String, position: &Position<'_>) -> Result<(), AllocError> {
     match position {
         Position::ArgumentImplicitlyIs(n) => put_number(out, "arg implicit ", *n)?,
@@ -56,6 +57,7 @@ fn put_position(out: &mut String, position: &Position<'_>) -> Result<(), AllocEr
 }
 
 /// Adds a fill character and its span, if there is one.
+#[inline(never)]
 fn put_fill(
     out: &mut String,
     fill: Option<char>,
@@ -71,6 +73,7 @@ fn put_fill(
 }
 
 /// Adds an alignment, if there is one.
+#[inline(never)]
 fn put_alignment(out: &mut String, align: Alignment) -> Result<(), AllocError> {
     match align {
         Alignment::AlignLeft => out.try_push_str(" align=left")?,
@@ -82,6 +85,7 @@ fn put_alignment(out: &mut String, align: Alignment) -> Result<(), AllocError> {
 }
 
 /// Adds a sign flag, if there is one.
+#[inline(never)]
 fn put_sign(out: &mut String, sign: Option<Sign>) -> Result<(), AllocError> {
     match sign {
         None => {}
@@ -101,6 +105,7 @@ fn put_flag(out: &mut String, name: &str, flag: bool) -> Result<(), AllocError> 
 }
 
 /// Adds the fill character, the alignment and the flags of a specification.
+#[inline(never)]
 fn put_flags(out: &mut String, spec: &FormatSpec<'_>) -> Result<(), AllocError> {
     put_fill(out, spec.fill, &spec.fill_span)?;
     put_alignment(out, spec.align)?;
@@ -111,6 +116,7 @@ fn put_flags(out: &mut String, spec: &FormatSpec<'_>) -> Result<(), AllocError> 
 }
 
 /// Adds a width or a precision.
+#[inline(never)]
 fn put_count(out: &mut String, count: &Count<'_>) -> Result<(), AllocError> {
     match count {
         Count::CountIs(n) => put_number(out, "is:", usize::from(*n))?,
@@ -165,6 +171,7 @@ fn put_precision(
 }
 
 /// Adds the case of the hexadecimal digits of a debug format, if it has one.
+#[inline(never)]
 fn put_hex(out: &mut String, hex: Option<DebugHex>) -> Result<(), AllocError> {
     match hex {
         None => {}
@@ -175,6 +182,7 @@ fn put_hex(out: &mut String, hex: Option<DebugHex>) -> Result<(), AllocError> {
 }
 
 /// Adds a type, unless it is empty and has no span.
+#[inline(never)]
 fn put_type(out: &mut String, ty: &str, span: &Option<Range<usize>>) -> Result<(), AllocError> {
     if span.is_none() && ty.is_empty() {
         return Ok(());
@@ -186,6 +194,7 @@ fn put_type(out: &mut String, ty: &str, span: &Option<Range<usize>>) -> Result<(
 }
 
 /// Adds the width, the precision and the type of a specification.
+#[inline(never)]
 fn put_values(out: &mut String, spec: &FormatSpec<'_>) -> Result<(), AllocError> {
     put_width(out, &spec.width, &spec.width_span)?;
     put_precision(out, &spec.precision, &spec.precision_span)?;
@@ -195,6 +204,7 @@ fn put_values(out: &mut String, spec: &FormatSpec<'_>) -> Result<(), AllocError>
 }
 
 /// Adds the line of a placeholder.
+#[inline(never)]
 pub(crate) fn put_argument(out: &mut String, argument: &Argument<'_>) -> Result<(), AllocError> {
     put_position(out, &argument.position)?;
     put_span(out, ' ', &argument.position_span)?;
@@ -205,6 +215,7 @@ pub(crate) fn put_argument(out: &mut String, argument: &Argument<'_>) -> Result<
 }
 
 /// Adds the line of an error.
+#[inline(never)]
 fn put_fault(out: &mut String, error: &ParseError) -> Result<(), AllocError> {
     out.try_push_str("fault")?;
     put_span(out, ' ', &error.span)?;

@@ -28,6 +28,7 @@ fn without_first(text: &str, c: char) -> Option<&str> {
 }
 
 /// Returns the number of hashes at the start of a text, and the text after them.
+#[inline(never)]
 fn leading_hashes(text: &str) -> (usize, &str) {
     let mut count = 0;
     let mut rest = text;
@@ -39,6 +40,7 @@ fn leading_hashes(text: &str) -> (usize, &str) {
 }
 
 /// Returns a text without `count` hashes at its end, or `None` if it does not end in as many.
+#[inline(never)]
 fn without_last_hashes(text: &str, count: usize) -> Option<&str> {
     let mut rest = text;
     for _ in 0..count {
@@ -60,6 +62,7 @@ pub struct RawText<'a> {
 }
 
 /// Returns the parts of a raw string literal, or `None` if it is no raw string literal.
+#[inline(never)]
 pub fn raw_text(literal: &str) -> Option<RawText<'_>> {
     let (hashes, rest) = leading_hashes(without_first(literal, 'r')?);
     let rest = without_first(rest, '"')?;
@@ -86,6 +89,7 @@ pub struct LiteralText {
 
 /// Returns the text that a string literal stands for, or `None` if it is no string literal. Returns
 /// `Err` if an allocation fails. The rules are those of the Rust Reference.
+#[inline(never)]
 pub fn literal_text(literal: &str) -> Result<Option<LiteralText>, AllocError> {
     if let Some(RawText { hashes, text }) = raw_text(literal) {
         return Ok(Some(LiteralText {

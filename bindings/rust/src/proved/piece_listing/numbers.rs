@@ -25,6 +25,7 @@ pub(crate) fn put_number(out: &mut String, label: &str, number: usize) -> Result
 }
 
 /// Writes a mark and then a span so that they end where `row` ends, and returns where they start.
+#[inline(never)]
 fn write_span(row: &mut [u8; SPAN_BYTES], mark: char, start: usize, end: usize) -> usize {
     let dots = write_digits(end as u64, row, SPAN_BYTES) - 2;
     row[dots + 1] = b'.';
@@ -36,6 +37,7 @@ fn write_span(row: &mut [u8; SPAN_BYTES], mark: char, start: usize, end: usize) 
 
 /// Appends a mark, which is an ASCII character, and then a span to `out`: its two offsets in
 /// decimal digits with `..` between them.
+#[inline(never)]
 pub fn put_span(out: &mut String, mark: char, span: &Range<usize>) -> Result<(), AllocError> {
     let mut row = [0; SPAN_BYTES];
     let first = write_span(&mut row, mark, span.start, span.end);

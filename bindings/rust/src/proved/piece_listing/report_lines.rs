@@ -12,6 +12,7 @@ use crate::shim::prelude::*;
 
 /// Returns the report on the arguments that are used if these are given, or a report without
 /// entries for `None`.
+#[inline(never)]
 pub fn report_for<'a>(
     all_uses: &Uses<'a>,
     arguments: Option<GivenArguments<'a>>,
@@ -31,6 +32,7 @@ pub fn report_for<'a>(
 }
 
 /// Returns whether a report has an entry.
+#[inline(never)]
 pub fn has_entries(report: &Report<'_>) -> bool {
     report.missing_index.len() > 0
         || report.missing_name.len() > 0
@@ -65,6 +67,7 @@ fn put_names(out: &mut String, label: &str, names: &[&str]) -> Result<(), AllocE
 }
 
 /// Adds a line for each entry of a report.
+#[inline(never)]
 pub fn put_report(out: &mut String, report: &Report<'_>) -> Result<(), AllocError> {
     put_numbers(out, "missing index ", report.missing_index.as_slice())?;
     put_names(out, "missing name ", report.missing_name.as_slice())?;

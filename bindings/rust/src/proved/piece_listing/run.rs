@@ -17,6 +17,7 @@ const CHUNK: usize = 4096;
 
 /// Reads all bytes of a reader up to its end. Returns `Err` if a read or an allocation fails, or if
 /// there are more than `LIMIT` bytes.
+#[inline(never)]
 pub fn read_input<R: Read>(reader: &mut R) -> Result<Vec<u8>, RunFault> {
     let mut bytes = Vec::new();
     let mut chunk = [0u8; CHUNK];
@@ -38,6 +39,7 @@ pub fn read_input<R: Read>(reader: &mut R) -> Result<Vec<u8>, RunFault> {
 
 /// Writes all of the bytes. Returns `Err` if a write fails or writes no byte; a part of the bytes
 /// may then be written.
+#[inline(never)]
 pub fn write_whole<W: Write>(writer: &mut W, bytes: &[u8]) -> Result<(), RunFault> {
     let mut rest = bytes;
     while !rest.is_empty() {
@@ -59,6 +61,7 @@ pub fn write_whole<W: Write>(writer: &mut W, bytes: &[u8]) -> Result<(), RunFaul
 /// `--literal`, not a string literal (`RunFault`). A read or a write that fails is not tried
 /// again. After an error nothing is written, except that after a failed write a part of the listing
 /// may be.
+#[inline(never)]
 pub fn run<R: Read, W: Write>(
     reader: &mut R,
     writer: &mut W,

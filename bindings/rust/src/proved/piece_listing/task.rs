@@ -18,6 +18,7 @@ pub struct Task<'a> {
 }
 
 /// Returns the mode that a word names, or `None` if it names none.
+#[inline(never)]
 fn mode_named(word: &str) -> Option<ParseMode> {
     if word == "format" {
         Some(ParseMode::Format)
@@ -54,6 +55,7 @@ fn task_with<'a>(word: &str, is_literal: bool, list: &'a str) -> Option<Task<'a>
 }
 
 /// Returns the task that the command-line arguments give, or `None` if they are invalid.
+#[inline(never)]
 pub fn task_of(words: &[String]) -> Option<Task<'_>> {
     match words {
         [word] => task_in(word.as_str(), false, None),

@@ -43,6 +43,7 @@ pub struct Exit {
 /// Returns the message and the exit status of the program for a result of `run`. The status is 0 if
 /// each line of the listing is of a piece, 1 if not, 2 if the command-line arguments are invalid or
 /// the input is not a string literal, and 3 after any other error. Does not allocate.
+#[inline(never)]
 pub fn verdict(answer: &Result<bool, RunFault>) -> Exit {
     let (message, status) = match answer {
         Ok(false) => ("", 0),

@@ -25,6 +25,7 @@ pub struct Report<'a> {
 
 /// Compares the arguments that are used with those that are given, as [`check`] does with those
 /// that pieces use.
+#[inline(never)]
 pub fn check_uses<'a>(
     uses: &Uses<'a>,
     positional: usize,

@@ -40,6 +40,7 @@ pub fn has_index(set: &Indices, index: usize) -> bool {
 }
 
 /// Marks an index that is not far from those in the list.
+#[inline(never)]
 fn mark(marks: &mut Vec<bool>, index: usize) -> Result<(), AllocError> {
     for _ in marks.len()..index {
         marks.try_push(false)?;
@@ -53,6 +54,7 @@ fn mark(marks: &mut Vec<bool>, index: usize) -> Result<(), AllocError> {
 }
 
 /// Adds an index to a set.
+#[inline(never)]
 pub fn insert_index(set: &mut Indices, index: usize) -> Result<(), AllocError> {
     let is_new = if index.saturating_sub(set.marks.len()) >= GAP {
         set.others.insert_in(index)?
@@ -79,6 +81,7 @@ fn push_from(list: &mut Vec<usize>, set: &BTreeSet<usize>, first: usize) -> Resu
 }
 
 /// Returns the indices of a set from `first` up to `end`, in ascending order.
+#[inline(never)]
 fn members_between(set: &Indices, first: usize, end: usize) -> Result<Vec<usize>, AllocError> {
     let mut members = Vec::new();
     for n in first..end {
@@ -90,6 +93,7 @@ fn members_between(set: &Indices, first: usize, end: usize) -> Result<Vec<usize>
 }
 
 /// Returns the indices of a set that are at least `first`, in ascending order.
+#[inline(never)]
 pub fn members_from(set: &Indices, first: usize) -> Result<Vec<usize>, AllocError> {
     let end = set.marks.len();
     let mut members = members_between(set, first, end)?;
@@ -100,6 +104,7 @@ pub fn members_from(set: &Indices, first: usize) -> Result<Vec<usize>, AllocErro
 /// Returns the indices below `end` that are not in a set, in ascending order. Allocates room for
 /// `room` indices first, since `end` may be the greatest `usize`, and filling the memory before the
 /// failure would take minutes.
+#[inline(never)]
 pub fn missing_indices(set: &Indices, end: usize, room: usize) -> Result<Vec<usize>, AllocError> {
     let mut missing_indices = Vec::made_for(room)?;
     for n in 0..end {

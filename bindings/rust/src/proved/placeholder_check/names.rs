@@ -77,6 +77,7 @@ pub fn insert_name<'a>(names: &mut Names<'a>, name: &'a str) -> Result<(), Alloc
 }
 
 /// Returns the names of a list after the first [`SCAN_LIMIT`].
+#[inline(never)]
 pub fn later_names<'a>(names: &[&'a str]) -> Result<BTreeSet<&'a str>, AllocError> {
     let mut later_set = BTreeSet::new();
     for i in SCAN_LIMIT..names.len() {
@@ -87,6 +88,7 @@ pub fn later_names<'a>(names: &[&'a str]) -> Result<BTreeSet<&'a str>, AllocErro
 
 /// Returns the names of a list that are not among others, in their order; `later_set` has those of
 /// the others after the first [`SCAN_LIMIT`].
+#[inline(never)]
 pub fn missing_names<'a>(
     names: &[&'a str],
     others: &[&'a str],
@@ -103,6 +105,7 @@ pub fn missing_names<'a>(
 
 /// Returns the names of a list that are not in a set, each once, in the order of their first
 /// entries.
+#[inline(never)]
 pub fn unused_names<'a>(names: &[&'a str], uses: &Names<'a>) -> Result<Vec<&'a str>, AllocError> {
     let mut unused_set = no_names();
     for name in names {

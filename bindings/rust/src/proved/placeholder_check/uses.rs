@@ -50,6 +50,7 @@ fn add_name<'a>(uses: &mut Uses<'a>, name: &'a str) -> Result<(), AllocError> {
 }
 
 /// Adds the argument that a position uses.
+#[inline(never)]
 fn add_position<'a>(uses: &mut Uses<'a>, position: &Position<'a>) -> Result<(), AllocError> {
     match position {
         Position::ArgumentImplicitlyIs(n) | Position::ArgumentIs(n) => add_index(uses, *n),
@@ -58,6 +59,7 @@ fn add_position<'a>(uses: &mut Uses<'a>, position: &Position<'a>) -> Result<(), 
 }
 
 /// Adds the argument that a width or a precision uses, if it uses one.
+#[inline(never)]
 fn add_count<'a>(uses: &mut Uses<'a>, count: &Count<'a>) -> Result<(), AllocError> {
     match count {
         Count::CountIsParam(n) | Count::CountIsStar(n) => add_index(uses, *n),
@@ -68,6 +70,7 @@ fn add_count<'a>(uses: &mut Uses<'a>, count: &Count<'a>) -> Result<(), AllocErro
 
 /// Adds the arguments that a placeholder uses: by its position, its width and its precision, in
 /// this order.
+#[inline(never)]
 fn add_argument<'a>(uses: &mut Uses<'a>, argument: &Argument<'a>) -> Result<(), AllocError> {
     add_position(uses, &argument.position)?;
     add_count(uses, &argument.format.width)?;

@@ -176,12 +176,12 @@ fn skip_byte_escapes(rest: &mut Rest<'_>, expected: &mut Rest<'_>) {
     }
 }
 
-/// Skips the plain characters with which a content and a text both begin, and the `\x` escapes
-/// after them.
+/// Skips the `\x` escapes at the start of a content, with the characters of a text that they stand
+/// for, and the plain characters with which both then go on.
 #[inline(always)]
 fn skip_alike(rest: &mut Rest<'_>, expected: &mut Rest<'_>) {
-    rest.skip_plain(expected);
     skip_byte_escapes(rest, expected);
+    rest.skip_plain(expected);
 }
 
 /// Returns where the text ends that the content stands for, as a byte offset that counts the quote
@@ -191,7 +191,7 @@ fn spelled_end(content: &str, text: &str) -> Option<usize> {
     let total = content.len() + 1;
     let mut rest = Rest::new(content);
     let mut expected = Rest::new(text);
-    skip_alike(&mut rest, &mut expected);
+    rest.skip_plain(&mut expected);
     let mut end = total - rest.len();
     while !rest.is_empty() {
         let Some(value) = read_unit(&mut rest) else {

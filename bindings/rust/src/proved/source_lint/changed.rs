@@ -49,6 +49,7 @@ pub fn changed_file_faults(
     let file = File {
         text,
         macros: &names,
+        own_macros: &[],
         is_from_2021: options.is_from_2021,
     };
     let Some(readings) = read_parts(file, &options.table, gaps)? else {

@@ -6,7 +6,7 @@
 use crate::proved::asm_lint::read_attributes;
 use crate::proved::format_calls::{calls, next_part, Call, Part, Table};
 use crate::proved::rust_trees::{Balance, FileBreak, Source, Tokens};
-use crate::proved::source_lint::macros::{macro_names, File};
+use crate::proved::source_lint::macros::{macro_names, File, OwnMacro};
 use crate::proved::source_lint::readings::read_call;
 use crate::proved::source_report::{CallReading, Finding, Options, Report};
 use crate::shim::alloc::AllocError;
@@ -90,17 +90,30 @@ pub fn report_on(text: &str, readings: Readings, balance: Balance) -> Result<Rep
     report_with(text, readings, first_break)
 }
 
-/// Reads a source file, and returns the faults of its calls of macros that take a format string or
-/// templates of assembly, and then those of the texts of its attributes.
-/// Lines may end with LF or CRLF, and a byte order mark may stand at the start.
-pub fn file_faults(text: &str, options: &Options<'_>) -> Result<Report, AllocError> {
+/// Reads a source file as [`file_faults`] does, and also its calls of these macros, which it
+/// defines and the table has.
+pub fn own_file_faults(
+    text: &str,
+    options: &Options<'_>,
+    own_macros: &[OwnMacro<'_>],
+) -> Result<Report, AllocError> {
     let names = macro_names(text)?;
     let file = File {
         text,
         macros: &names,
+        own_macros,
         is_from_2021: options.is_from_2021,
     };
     let mut balance = Balance::new();
     let readings = read_file(file, &options.table, &mut balance)?;
     report_on(text, readings, balance)
+}
+
+/// Reads a source file, and returns the faults of its calls of macros that take a format string or
+/// templates of assembly, and then those of the texts of its attributes. No call of a macro that
+/// the file defines is read.
+/// Lines may end with LF or CRLF, and a byte order mark may stand at the start.
+#[inline]
+pub fn file_faults(text: &str, options: &Options<'_>) -> Result<Report, AllocError> {
+    own_file_faults(text, options, &[])
 }

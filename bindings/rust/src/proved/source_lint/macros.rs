@@ -3,6 +3,7 @@
 // Extracted from crates/source_lint/src/macros.rt by tools/extract: not to be edited.
 // That source has the contracts, and is proved. That this text means the same is only tested.
 
+use crate::proved::asm_lint::appends_newline;
 use crate::proved::call_forms::is_foreign;
 use crate::proved::format_calls::{is_mark_of, is_of_crates, is_word, token_at, word, Call, Rule};
 use crate::proved::rust_tokens::Kind;
@@ -12,6 +13,15 @@ use crate::shim::alloc::AllocError;
 use crate::shim::prelude::*;
 use alloc::collections::BTreeSet;
 
+/// A macro that a file defines, and of which the table says how its calls are read.
+#[derive(Clone, Copy)]
+pub struct OwnMacro<'a> {
+    /// Its name.
+    pub name: &'a str,
+    /// Whether it appends a newline to its format string.
+    pub appends_newline: bool,
+}
+
 /// A file, with what its calls are read by.
 #[derive(Clone, Copy)]
 pub struct File<'s, 'a> {
@@ -19,6 +29,8 @@ pub struct File<'s, 'a> {
     pub text: &'a str,
     /// The names of the macros that it defines.
     pub macros: &'s BTreeSet<&'a [u8]>,
+    /// Those of these macros of which the table says how their calls are read.
+    pub own_macros: &'s [OwnMacro<'s>],
     /// Whether its edition is 2021 or a later one.
     pub is_from_2021: bool,
 }
@@ -72,6 +84,31 @@ fn is_defined<'a>(names: &BTreeSet<&'a [u8]>, word: &'a [u8]) -> bool {
     names.contains(&word)
 }
 
+/// Returns whether the first of these macros that has a name appends a newline to its format
+/// string, or `None` if none has it.
+fn newline_by(own_macros: &[OwnMacro<'_>], name: &[u8]) -> Option<bool> {
+    for own_macro in own_macros {
+        if own_macro.name.as_bytes() == name {
+            return Some(own_macro.appends_newline);
+        }
+    }
+    None
+}
+
+/// Returns whether the table says how calls of the macro of a name are read, which a file defines.
+#[inline]
+fn is_own(file: File<'_, '_>, name: &[u8]) -> bool {
+    newline_by(file.own_macros, name).is_some()
+}
+
+/// Returns whether a macro of this name appends a newline to its format string in a file.
+pub(crate) fn newline_of(file: File<'_, '_>, name: &[u8]) -> bool {
+    match newline_by(file.own_macros, name) {
+        Some(appended_newline) => appended_newline,
+        None => appends_newline(name),
+    }
+}
+
 /// Returns the name of a call, without `r#`.
 pub fn name_at<'a>(tokens: &[Token<'a>], name: usize) -> &'a [u8] {
     match token_at(tokens, name) {
@@ -103,7 +140,7 @@ pub fn other_macro<'a>(
     call: &Call,
 ) -> Option<CallReading> {
     let name = name_at(tokens, call.name);
-    if is_defined(file.macros, name) {
+    if is_defined(file.macros, name) && !is_own(file, name) {
         return Some(CallReading::RedefinedMacro);
     }
     if is_log(call.rule, name) && is_foreign(file.text, offset_at(tokens, call.name)) {

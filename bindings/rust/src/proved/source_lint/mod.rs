@@ -13,6 +13,10 @@ pub(crate) mod macros;
 pub(crate) mod readings;
 
 pub use changed::changed_file_faults;
+#[cfg(feature = "programs")]
+pub use lint::own_file_faults;
 pub use lint::{file_faults, read_calls, report_on, Readings};
+#[cfg(feature = "programs")]
+pub use macros::OwnMacro;
 pub use macros::{macro_names, name_at, other_macro, File};
 pub use readings::{argument_at, arguments_before, captures_variables, ends_early, index_or};

@@ -3,9 +3,7 @@
 // Extracted from crates/source_lint/src/readings.rt by tools/extract: not to be edited.
 // That source has the contracts, and is proved. That this text means the same is only tested.
 
-use crate::proved::asm_lint::{
-    appends_newline, dropped_crs, read_asm, read_literal, reading_of, Site,
-};
+use crate::proved::asm_lint::{dropped_crs, read_asm, read_literal, reading_of, Site};
 use crate::proved::call_faults::{call_faults, FormatArgument, FormatString};
 use crate::proved::call_forms::{form_here, have_joined, have_variables, lacks_operand, tokens_of};
 use crate::proved::format_calls::{
@@ -15,7 +13,7 @@ use crate::proved::rust_trees::Token;
 use crate::proved::source_lint::findings::put_findings;
 use crate::proved::source_lint::form_words::put_form;
 use crate::proved::source_lint::givens::givens;
-use crate::proved::source_lint::macros::{name_at, other_macro, File};
+use crate::proved::source_lint::macros::{name_at, newline_of, other_macro, File};
 use crate::proved::source_report::{CallReading, Finding};
 use crate::shim::alloc::AllocError;
 use crate::shim::prelude::*;
@@ -136,7 +134,7 @@ fn read_with(
         close: call.close,
     };
     let name = name_at(tokens, call.name);
-    let appended_newline = appends_newline(name);
+    let appended_newline = newline_of(file, name);
     let captures_variables = captures_variables(call.rule, name, file.is_from_2021);
     read_string(
         findings,

@@ -34,6 +34,7 @@ fn rest_after(bytes: &[u8], n: usize) -> &[u8] {
 }
 
 /// Makes an edit.
+#[inline(never)]
 fn apply_edit(edited_text: &mut EditedText<'_>, edit: &Edit<'_>) -> Result<(), AllocError> {
     let source = front(
         edited_text.rest,
@@ -60,6 +61,7 @@ fn apply_edits(edited_text: &mut EditedText<'_>, edits: &[Edit<'_>]) -> Result<(
 }
 
 /// Mends a fault, if it has edits, and these follow the last one.
+#[inline(never)]
 fn mend(edited_text: &mut EditedText<'_>, finding: &Finding) -> Result<(), AllocError> {
     let edits = edits_of(finding)?;
     if !edits.is_empty() && are_after(edited_text.end, edits.as_slice()) {
@@ -70,6 +72,7 @@ fn mend(edited_text: &mut EditedText<'_>, finding: &Finding) -> Result<(), Alloc
 }
 
 /// Mends the faults of a text that can be mended in one round.
+#[inline(never)]
 pub fn mend_each<'t>(text: &'t str, findings: &[Finding]) -> Result<EditedText<'t>, AllocError> {
     let mut edited_text = EditedText {
         bytes: Vec::new(),

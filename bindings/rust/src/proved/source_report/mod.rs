@@ -10,6 +10,6 @@ pub(crate) mod suggestions;
 
 pub use edited::mend_each;
 pub use report::{CallReading, Edit, Finding, Help, Label, Note, Options, Report};
-pub use suggestions::{are_after, edits_of};
+pub use suggestions::{are_after, edits_of, is_applicable};
 #[cfg(feature = "programs")]
-pub use suggestions::{is_applicable, suggestion_of, LabelSuggestion};
+pub use suggestions::{suggestion_of, LabelSuggestion};

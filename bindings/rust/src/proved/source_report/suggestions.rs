@@ -78,6 +78,7 @@ fn is_plain(c: char) -> bool {
 }
 
 /// Returns whether all characters of a text are plain.
+#[inline(never)]
 fn are_plain(text: &str) -> bool {
     let mut rest = text;
     while let Some((c, more)) = split_first(rest) {
@@ -120,6 +121,7 @@ fn is_field(name: &str, field: &str) -> bool {
 
 /// Returns whether the new text of an edit is source of Rust, as far as it is moved out of a
 /// literal: it is `, NAME.FIELD` without an escape, and without a keyword but `self` in front.
+#[inline(never)]
 fn is_movable(text: &str) -> bool {
     let moved = after_mark(text, ',');
     let name = before_mark(moved, '.').trim();
@@ -128,6 +130,7 @@ fn is_movable(text: &str) -> bool {
 }
 
 /// Returns whether the new text of each edit of a help is source of Rust.
+#[inline(never)]
 fn is_movable_help(help: &Option<Help>) -> bool {
     let Some(help) = help else {
         return true;
@@ -141,6 +144,7 @@ fn is_movable_help(help: &Option<Help>) -> bool {
 }
 
 /// Adds the edits of labels.
+#[inline(never)]
 fn add_label_edits<'f>(edits: &mut Vec<Edit<'f>>, labels: &'f [Label]) -> Result<(), AllocError> {
     for label in labels {
         if let Some(suggestion) = suggestion_of(label.text.as_str()) {
@@ -154,6 +158,7 @@ fn add_label_edits<'f>(edits: &mut Vec<Edit<'f>>, labels: &'f [Label]) -> Result
 }
 
 /// Adds the edits of a help.
+#[inline(never)]
 fn add_help_edits<'f>(edits: &mut Vec<Edit<'f>>, help: &'f Option<Help>) -> Result<(), AllocError> {
     let Some(help) = help else {
         return Ok(());
@@ -169,6 +174,7 @@ fn add_help_edits<'f>(edits: &mut Vec<Edit<'f>>, help: &'f Option<Help>) -> Resu
 
 /// Returns the edits that mend a fault, or none if it has no suggestion to apply, or one that would
 /// put text into the source that is no expression.
+#[inline(never)]
 pub fn edits_of<'f>(finding: &'f Finding) -> Result<Vec<Edit<'f>>, AllocError> {
     let mut edits = Vec::new();
     if is_applicable(finding.id) && is_movable_help(&finding.help) {
@@ -180,6 +186,7 @@ pub fn edits_of<'f>(finding: &'f Finding) -> Result<Vec<Edit<'f>>, AllocError> {
 
 /// Returns whether each edit starts where the one before it ends or later, the first one at the
 /// byte offset `at` or later, and none ends before it starts.
+#[inline(never)]
 pub fn are_after(at: usize, edits: &[Edit<'_>]) -> bool {
     let mut end = at;
     for edit in edits {

@@ -29,6 +29,7 @@ fn shown_fault(faults: Vec<Fault<'_>>) -> Option<Fault<'_>> {
 }
 
 /// Returns the faults of the first call of a parser that finds any.
+#[inline(never)]
 fn first_faults<'a>(parser: &mut Parser<'a>) -> Result<Vec<Fault<'a>>, AllocError> {
     let mut argument = Argument::default();
     let mut faults = Vec::new();

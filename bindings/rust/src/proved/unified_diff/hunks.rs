@@ -19,6 +19,7 @@ struct Numbers {
 }
 
 /// Returns how many of these rows are in the old text, and how many in the new one.
+#[inline(never)]
 fn count(rows: &[Row<'_>]) -> Numbers {
     let mut numbers = Numbers { old: 0, new: 0 };
     for row in rows {
@@ -50,6 +51,7 @@ fn first_change(rows: &[Row<'_>]) -> Option<usize> {
 }
 
 /// Returns how many of these rows, of which one of the first is a change, belong to one hunk.
+#[inline(never)]
 fn hunk_len(rows: &[Row<'_>]) -> usize {
     let mut count = 0usize;
     let mut change_end = 0usize;
@@ -72,6 +74,7 @@ fn put_number(out: &mut String, number: usize) -> Result<(), AllocError> {
 
 /// Appends where the lines of a hunk are in a text: the number of the first line, and how many
 /// there are. Without a line the number is that of the line before.
+#[inline(never)]
 fn put_extent(out: &mut String, lines_before: usize, count: usize) -> Result<(), AllocError> {
     let first = if count == 0 {
         lines_before
@@ -116,6 +119,7 @@ fn put_rows(out: &mut String, rows: &[Row<'_>]) -> Result<(), AllocError> {
 }
 
 /// Appends a hunk of rows, with these numbers of lines before it.
+#[inline(never)]
 fn put_hunk(out: &mut String, numbers: Numbers, rows: &[Row<'_>]) -> Result<(), AllocError> {
     let row_numbers = count(rows);
     out.try_push_str("@@ -")?;
@@ -136,6 +140,7 @@ fn numbers_after(numbers: Numbers, rows: &[Row<'_>]) -> Numbers {
 }
 
 /// Appends all hunks of rows.
+#[inline(never)]
 fn put_hunks(out: &mut String, rows: &[Row<'_>]) -> Result<(), AllocError> {
     let mut rest = rows;
     let mut numbers = Numbers { old: 0, new: 0 };
@@ -162,26 +167,30 @@ fn wants_quotes(path: &str) -> bool {
     false
 }
 
-/// Appends a character of a path in quotes.
-fn put_quoted(out: &mut String, c: char) -> Result<(), AllocError> {
-    if c == '"' || c == '\\' {
-        out.try_push('\\')?;
-        return out.try_push(c);
-    }
-    if c >= ' ' && c != '\u{7f}' {
-        return out.try_push(c);
-    }
-    if c == '\u{7f}' {
-        return out.try_push_str("\\177");
-    }
-    let code = c as u32;
-    out.try_push_str("\\0")?;
-    put_number(out, (code / 8) as usize)?;
-    put_number(out, (code % 8) as usize)
+/// Appends a byte as an escape of C.
+#[inline(never)]
+fn put_octal(out: &mut String, byte: u32) -> Result<(), AllocError> {
+    out.try_push('\\')?;
+    put_number(out, (byte / 64) as usize)?;
+    put_number(out, (byte / 8 % 8) as usize)?;
+    put_number(out, (byte % 8) as usize)
 }
 
-/// Appends a path, in quotes with escapes of C if it has a quote, a backslash or a control
-/// character, and with a tab after it if it has a space.
+/// Appends a character of a path in quotes.
+#[inline(never)]
+fn put_quoted(out: &mut String, c: char) -> Result<(), AllocError> {
+    if c < ' ' || c == '\u{7f}' {
+        return put_octal(out, c as u32);
+    }
+    if c == '"' || c == '\\' {
+        out.try_push('\\')?;
+    }
+    out.try_push(c)
+}
+
+/// Appends the path of a text, in quotes with escapes of C if it is not UTF-8 or has a quote, a
+/// backslash or a control character, and otherwise with a tab after it if it has a space.
+#[inline(never)]
 fn put_path(out: &mut String, path: &str) -> Result<(), AllocError> {
     if !wants_quotes(path) {
         out.try_push_str(path)?;
@@ -191,13 +200,26 @@ fn put_path(out: &mut String, path: &str) -> Result<(), AllocError> {
         return Ok(());
     }
     out.try_push('"')?;
+    // After NUL there are two digits in base 16 of a byte that is not UTF-8.
+    let (mut digits, mut byte) = (0u32, 0u32);
     for c in path.chars() {
-        put_quoted(out, c)?;
+        if c == '\0' {
+            digits = 2;
+        } else if digits > 0 {
+            digits -= 1;
+            byte = byte % 16 * 16 + c.to_digit(16).unwrap_or(0);
+            if digits == 0 {
+                put_octal(out, byte)?;
+            }
+        } else {
+            put_quoted(out, c)?;
+        }
     }
     out.try_push('"')
 }
 
 /// Appends the first two lines of a diff of the file with this path.
+#[inline(never)]
 fn put_head(out: &mut String, path: &str) -> Result<(), AllocError> {
     let mut name = String::new();
     put_path(&mut name, path)?;
@@ -212,6 +234,7 @@ fn put_head(out: &mut String, path: &str) -> Result<(), AllocError> {
 /// Appends the difference of an old and a new text of the file with this path as a unified diff,
 /// with three lines of context, and nothing if they are the same. A line ends at an LF. The time
 /// grows with both lengths.
+#[inline(never)]
 pub fn put_diff(out: &mut String, path: &str, old: &str, new: &str) -> Result<(), AllocError> {
     if old == new {
         return Ok(());

@@ -39,6 +39,7 @@ fn lines_of<'a>(text: &'a str) -> Result<Vec<&'a str>, AllocError> {
 }
 
 /// Returns how many lines at the ends of two texts are the same.
+#[inline(never)]
 fn common_end(old: &[&str], new: &[&str]) -> usize {
     let mut count = 0;
     while count < old.len() && count < new.len() {
@@ -58,6 +59,7 @@ struct Pair {
 }
 
 /// Returns whether two texts have these lines, and they are the same.
+#[inline(never)]
 fn is_common(old: &[&str], new: &[&str], pair: Pair) -> bool {
     match (old.get(pair.old - 1), new.get(pair.new - 1)) {
         (Some(line), Some(other)) => *line == *other,
@@ -67,6 +69,7 @@ fn is_common(old: &[&str], new: &[&str], pair: Pair) -> bool {
 
 /// Returns the first line that the starts of two texts have in common, in order of the sum of its
 /// numbers, which are at most eight.
+#[inline(never)]
 fn next_common(old: &[&str], new: &[&str]) -> Option<Pair> {
     for sum in 2..=WINDOW + WINDOW {
         for number in 1..=WINDOW {
@@ -116,6 +119,7 @@ pub fn rest_after<T>(items: &[T], n: usize) -> &[T] {
 }
 
 /// Appends the lines of two texts up to one that they have in common.
+#[inline(never)]
 fn push_pair<'a>(
     rows: &mut Vec<Row<'a>>,
     old: &[&'a str],
@@ -131,6 +135,7 @@ fn push_pair<'a>(
 }
 
 /// Appends the lines of two texts without a common end beside each other.
+#[inline(never)]
 fn push_middle<'a>(
     rows: &mut Vec<Row<'a>>,
     old: &[&'a str],
@@ -150,6 +155,7 @@ fn push_middle<'a>(
 
 /// Returns the lines of two texts beside each other: those that are not in the new one alone are
 /// the old text, and those that are not in the old one alone the new text.
+#[inline(never)]
 pub fn rows_of<'a>(old: &'a str, new: &'a str) -> Result<Vec<Row<'a>>, AllocError> {
     let old_lines = lines_of(old)?;
     let new_lines = lines_of(new)?;

@@ -1,6 +1,6 @@
 use Rattle.std.proofs.Common.{◌++◌, ◌∙◌, ap, append_assoc, codes, map, string_bytes}
 use Rattle.drawn_faults.specs.Diagnostics.{first_spot, labels_rows, titled_labels}
-use Rattle.drawn_faults.specs.Drawing.{arrow}
+use Rattle.drawn_faults.specs.Diagnostics.{arrow}
 use Rattle.drawn_lines.specs.Glyphs.{glyph_bytes}
 use Rattle.drawn_lines.specs.Frames.{seen_frame}
 use Rattle.drawn_labels.specs.Labels.{seen_label}

@@ -1,34 +1,36 @@
-use Rattle.std.proofs.Common.{◌≡◌, ◌-◌, ◌++◌, [], IfSome, ap, append-nil}
+use Rattle.std.proofs.Common.{◌≡◌, ◌++◌, [], IfSome, ap, append-nil}
 use Rattle.std.proofs.Common.{◌∙◌, arith, map, refl, string_bytes, subst, sym}
 use Rattle.std.proofs.lemmas.Grind.{common_steps}
 use Rattle.std.proofs.lemmas.List.{map-append}
 use Rattle.std.specs.List.{All}
 use Rattle.format_calls.specs.Rows.{entry}
 use Rattle.asm_lint.specs.Spans.{HasSpans}
-use Rattle.file_fixes.specs.FileFixes.{AreRounds, IsRound, bytes_or}
+use Rattle.file_fixes.specs.FileFixes.{AreRounds, IsRound, bytes_or, most_rounds}
 use Rattle.file_fixes.proofs.RoundLaws.{one-more, stay, stop}
 use Rattle.file_fixes.proofs.rounds.fixes.Goals as goal
 
-pub loop-rounds-init : goal.loop-rounds-init
-loop-rounds-init c =
+pub loop-rounds_left-init : goal.loop-rounds_left-init
+loop-rounds_left-init c =
     let r = c.in_ok-file_faults.field-0 in
+    let es = map entry c.args.options.now.table.rows.items in
+    let new = c.args.options.now.is_from_2021 in
+    let text = c.args.text.now in
     record {
-      few = omega (arith);
       report = c.in_ok-file_faults.ensures.report;
       spans = c.in_ok-file_faults.ensures.spans;
       rounds = (
         r,
         c.in_ok-file_faults.ensures.report,
-        λ cs q ws h.
-            subst (λ xs. AreRounds (map entry c.args.options.now.table.rows.items)
-            c.args.options.now.is_from_2021 16 c.args.text.now r cs q (map (λ w. w.now) xs ++ ws))
-            (sym c.new.ensures.items) h,
+        λ cs q ws h. subst (λ n. AreRounds es new n text r cs q
+            (map (λ w. w.now) c.new.result.items ++ ws)) c.most_rounds-rounds_left.ensures
+            (subst (λ xs. AreRounds es new c.most_rounds-rounds_left.result text r cs q
+            (map (λ w. w.now) xs ++ ws)) (sym c.new.ensures.items) h),
       );
     }
 
 pub returns-in_default-clause-rounds : goal.returns-in_default-clause-rounds
 returns-in_default-clause-rounds c =
-    let l = c.loop-rounds in
+    let l = c.loop-rounds_left in
     let i = l.invariant.rounds in
     let es = map entry c.args.options.now.table.rows.items in
     let new = c.args.options.now.is_from_2021 in
@@ -36,14 +38,15 @@ returns-in_default-clause-rounds c =
     let cs = bytes_or l.file_fixes.text text in (
       i.0,
       i.1,
-      subst (λ ws. AreRounds es new 16 text i.0 cs l.file_fixes.report ws) (append-nil _)
-          (i.2 cs l.file_fixes.report [] (stay es new (16 - l.rounds) cs l.file_fixes.report
+      subst (λ ws. AreRounds es new (most_rounds text) text i.0 cs l.file_fixes.report ws)
+          (append-nil _) (i.2 cs l.file_fixes.report []
+          (stay es new l.rounds_left cs l.file_fixes.report
           ((rw c.in_default.is at c.in_ok-round.ensures.last) refl))),
     )
 
-pub loop-rounds-preserved : goal.loop-rounds-preserved
-loop-rounds-preserved c =
-    let l = c.loop-rounds in
+pub loop-rounds_left-preserved : goal.loop-rounds_left-preserved
+loop-rounds_left-preserved c =
+    let l = c.loop-rounds_left in
     let i = l.invariant.rounds in
     let x = c.in-Some.round in
     let y = c.in_ok-file_fixes.file_fixes in
@@ -64,7 +67,6 @@ loop-rounds-preserved c =
     ap (map (λ w. w.now)) c.in_ok-file_fixes.ensures.ids
     ∙ map-append (λ w. w.now) l.file_fixes.ids.items x.ids.items in
     record {
-      few = omega (arith, c.loop-rounds-test.true);
       report = next.report;
       spans = subst (λ p. All (HasSpans (bytes_or y.text text)) p.findings.items)
           (sym c.in_ok-file_fixes.ensures.report) (subst (λ t. All (HasSpans (bytes_or t text))
@@ -72,17 +74,18 @@ loop-rounds-preserved c =
       rounds = (
         i.0,
         i.1,
-        λ cs q ws h. subst (λ us. AreRounds es new 16 text i.0 cs q (us ++ ws))
-            (sym e) (one-more es new l.rounds text (bytes_or l.file_fixes.text text)
+        λ cs q ws h. subst (λ us. AreRounds es new (most_rounds text) text i.0 cs q (us ++ ws))
+            (sym e) (one-more es new l.rounds_left (most_rounds text) text
+            (bytes_or l.file_fixes.text text)
             (bytes_or y.text text) i.0 l.file_fixes.report y.report
             (map (λ w. w.now) l.file_fixes.ids.items)
-            (map (λ w. w.now) x.ids.items) c.loop-rounds-test.true next i.2 cs q ws h),
+            (map (λ w. w.now) x.ids.items) c.loop-rounds_left-test.true next i.2 cs q ws h),
       );
     }
 
 pub returns-clause-rounds : goal.returns-clause-rounds
 returns-clause-rounds c =
-    let l = c.loop-rounds in
+    let l = c.loop-rounds_left in
     let i = l.invariant.rounds in
     let es = map entry c.args.options.now.table.rows.items in
     let new = c.args.options.now.is_from_2021 in
@@ -90,7 +93,8 @@ returns-clause-rounds c =
     let cs = bytes_or l.file_fixes.text text in (
       i.0,
       i.1,
-      subst (λ ws. AreRounds es new 16 text i.0 cs l.file_fixes.report ws) (append-nil _)
-          (i.2 cs l.file_fixes.report [] (stop es new (16 - l.rounds) cs l.file_fixes.report
-          (omega (arith, c.loop-rounds-test.false)))),
+      subst (λ ws. AreRounds es new (most_rounds text) text i.0 cs l.file_fixes.report ws)
+          (append-nil _) (i.2 cs l.file_fixes.report []
+          (stop es new l.rounds_left cs l.file_fixes.report
+          (omega (arith, c.loop-rounds_left-test.false)))),
     )

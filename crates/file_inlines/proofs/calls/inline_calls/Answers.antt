@@ -14,15 +14,15 @@ loop-call-init c = record {
   are_calls = λ d h. c.requires.pairs d h;
 }
 
-pub inline_call-requires-clause-pair : goal.inline_call-requires-clause-pair
-inline_call-requires-clause-pair c =
+pub inline_on-requires-clause-pair : goal.inline_on-requires-clause-pair
+inline_on-requires-clause-pair c =
     let e : c.loop-call.rest.now ≡ c.in-Some.call.now ∷ c.in-Some.others.now = search rules in
     c.loop-call.invariant.are_calls c.in-Some.call.now
     (subst (λ v. Contains v c.in-Some.call.now) (sym e)
     (here c.in-Some.call.now c.in-Some.others.now))
 
-pub inline_call-requires-clause-reads : goal.inline_call-requires-clause-reads
-inline_call-requires-clause-reads c =
+pub inline_on-requires-clause-reads : goal.inline_on-requires-clause-reads
+inline_on-requires-clause-reads c =
     let e : c.loop-call.rest.now ≡ c.in-Some.call.now ∷ c.in-Some.others.now = search rules in
     let f : c.loop-call.rest_readings.now
     ≡ c.in-Some-split_first.reading.now ∷ c.in-Some-split_first.more.now = search rules in

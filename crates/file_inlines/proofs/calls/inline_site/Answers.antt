@@ -42,7 +42,7 @@ returns c =
       c.in-Some.literal.style,
       r.stands_for,
       r.is_literal,
-      subst (λ (v : FormatCall). Makes c.args.allows_mixed v (AreEdits found.text.now xs
-          (leaf found.literal) found.arguments.now) x.inlining (map seen_edit x.edits.items))
-          same h,
+      subst (λ (v : FormatCall). Makes c.args.allows_mixed v (leaf found.literal)
+          (AreEdits found.text.now xs (leaf found.literal) found.arguments.now) x.inlining
+          (map seen_edit x.edits.items)) same h,
     )) c.inline_format_call.ensures

@@ -4,10 +4,10 @@ use Rattle.inlined_arguments.specs.Values.{slots_from}
 use Rattle.inlined_arguments.proofs.slots.slots.Given as goal
 
 -- The slots so far, and then those of the arguments that are left, are all.
-abbrev pub invariant-loop-index : goal.invariant-loop-index
-invariant-loop-index l = record {
-  few : l.number ≤ l.index;
+abbrev pub invariant-loop-argument : goal.invariant-loop-argument
+invariant-loop-argument l = record {
+  few : l.kept_count ≤ l.argument-index;
   all : map seen_slot l.slots.items
-      ++ slots_from l.index (map seen_argument (drop l.index l.arguments))
+      ++ slots_from l.kept_count (map seen_argument (drop l.argument-index l.arguments))
       ≡ slots_from 0 (map seen_argument l.arguments);
 }

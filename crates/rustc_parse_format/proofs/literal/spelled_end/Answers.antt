@@ -6,25 +6,27 @@ use Rattle.rustc_parse_format.specs.LiteralUnits.{meaning, unit_at, at_most_one}
 use Rattle.rustc_parse_format.proofs.Literals.Meanings.{meaning-narrower, meaning-shorter}
 use Rattle.rustc_parse_format.proofs.Literals.Widths.{width-chars}
 use Rattle.rustc_parse_format.proofs.Literals.Ends.{end-none, end-nothing, end-differs, end-agrees}
-use Rattle.rustc_parse_format.proofs.Literals.Ends.{end-over}
+use Rattle.rustc_parse_format.proofs.Literals.Ends.{end-over, ends-plain}
 use Rattle.rustc_parse_format.proofs.literal.spelled_end.Goals as goal
 
 pub overflow_sub-end : goal.overflow_sub-end
 overflow_sub-end c =
-    let shared = rw (c.new-rest.ensures, c.new-expected.ensures) at c.skip_alike.ensures in
+    let shared = ends-plain _ _ _ _
+    (rw (c.new-rest.ensures, c.new-expected.ensures) at c.skip_plain.ensures) in
     omega (arith, c.len.ensures, shared.narrower, width-chars c.args.content.now c.utf8.content)
 
 pub loop-rest-init : goal.loop-rest-init
 loop-rest-init c =
     let total = length c.args.content.now + 1 in
-    let shared = rw (c.new-rest.ensures, c.new-expected.ensures) at c.skip_alike.ensures in
+    let shared = ends-plain _ _ _ _
+    (rw (c.new-rest.ensures, c.new-expected.ensures) at c.skip_plain.ensures) in
     let size = width-chars c.args.content.now c.utf8.content in
-    let narrower : byte_length c.skip_alike.new.rest ≤ byte_length (chars c.args.content.now) =
+    let narrower : byte_length c.skip_plain.new.self ≤ byte_length (chars c.args.content.now) =
     shared.narrower in
     record {
       answer =
           rw (c.len.ensures)
-          (sym (shared.ends 1 (total - byte_length c.skip_alike.new.rest) (omega arith)));
+          (sym (shared.ends 1 (total - byte_length c.skip_plain.new.self) (omega arith)));
       within = omega arith;
     }
 
@@ -56,7 +58,7 @@ overflow_sub-end-in-Some-value c =
     omega (
       arith,
       c.len-in-Some-value.ensures,
-      c.skip_alike-in-Some-value.ensures.narrower,
+      c.skip_alike.ensures.narrower,
       meaning-narrower c.loop-rest.rest
           (at_most_one c.in-Some.value) c.read_unit.new.rest c.in-Some.ensures,
     )
@@ -65,7 +67,7 @@ pub loop-rest-smaller-in-Some-value : goal.loop-rest-smaller-in-Some-value
 loop-rest-smaller-in-Some-value c =
     omega (
       arith,
-      c.skip_alike-in-Some-value.ensures.shorter,
+      c.skip_alike.ensures.shorter,
       meaning-shorter c.loop-rest.rest (at_most_one c.in-Some.value)
           c.read_unit.new.rest c.in-Some.ensures,
     )
@@ -76,14 +78,14 @@ loop-rest-preserved-in-Some-value c =
     let within = c.loop-rest.invariant.within in
     let at = total - byte_length c.loop-rest.rest in
     let f = total - byte_length c.read_unit.new.rest in
-    let n = total - byte_length c.skip_alike-in-Some-value.new.rest in
+    let n = total - byte_length c.skip_alike.new.rest in
     let narrower : byte_length c.read_unit.new.rest ≤ byte_length c.loop-rest.rest =
     meaning-narrower c.loop-rest.rest
     (at_most_one c.in-Some.value) c.read_unit.new.rest c.in-Some.ensures in
     let agrees : begins_with c.in-Some-value.c c.loop-rest.expected
     ≡ true = sym c.next_eq.ensures.value ∙ c.if-not-next_eq.false in
-    let shared = rw (c.next_eq.ensures.rest) at c.skip_alike-in-Some-value.ensures in
-    let less : byte_length c.skip_alike-in-Some-value.new.rest
+    let shared = rw (c.next_eq.ensures.rest) at c.skip_alike.ensures in
+    let less : byte_length c.skip_alike.new.rest
     ≤ byte_length c.read_unit.new.rest = shared.narrower in
     record {
       answer = rw (c.len-in-Some-value.ensures)

@@ -1,7 +1,7 @@
 use Rattle.source_lint.proofs.lint.report_with.Goals as goal
 
 pub returns-clause-report : goal.returns-clause-report
-returns-clause-report c = λ es is_new ls l r b.
+returns-clause-report c = λ es ms is_new ls l r b.
     let a = c.in_ok-put_attributes.ensures.read ls l in
     record {
       leaves = ls;

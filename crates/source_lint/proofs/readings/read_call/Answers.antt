@@ -5,7 +5,7 @@ use Rattle.std.proofs.lemmas.Result.{IfOk-weaker}
 use Rattle.format_calls.specs.Arguments.{tokens_of}
 use Rattle.source_lint.specs.FormWords.{TellsForms}
 use Rattle.call_forms.specs.Forms.{form_here}
-use Rattle.source_lint.specs.Readings.{ReadsUnless, scope, skipped_reading}
+use Rattle.source_lint.specs.Readings.{ReadsUnless, name_at, newline_of, scope, skipped_reading}
 use Rattle.source_lint.proofs.Calling.{arguments-here, reads-here}
 use Rattle.source_lint.proofs.readings.read_call.Goals as goal
 
@@ -13,7 +13,9 @@ pub returns-in-Some-clause-read : goal.returns-in-Some-clause-read
 returns-in-Some-clause-read c = (
   [],
   sym (append-nil _),
-  subst (λ o. ReadsUnless o c.args.file.is_from_2021 c.args.part.now c.args.call.now
+  subst (λ o. ReadsUnless o c.args.file.is_from_2021
+      (newline_of (scope c.args.file) (name_at c.args.part.now c.args.call.now.name))
+      c.args.part.now c.args.call.now
       c.in-Some.reading [])
       (sym c.in-Some.is ∙ (c.other_macro.ensures
       ∙ ap (λ v. skipped_reading (scope c.args.file) c.args.call.now.rule
@@ -38,7 +40,7 @@ returns-in-Ok-clause-read c =
     IfOk-weaker c.read_one.result _ _ (λ _ r. (
       r.0,
       r.1,
-      reads-here c.args.file.is_from_2021 _ c.args.part.now c.args.call.now
+      reads-here c.args.file.is_from_2021 _ _ c.args.part.now c.args.call.now
           c.as_slice-list.result.now _ _ r.0
           (sym c.in_default.is ∙ (c.other_macro.ensures
           ∙ ap (λ v. skipped_reading (scope c.args.file) c.args.call.now.rule
@@ -60,7 +62,7 @@ returns-clause-read c =
     let t = c.in_ok-put_form-in-Err.ensures.outcome in (
       t.0,
       t.1,
-      reads-here is_new _ xs call args _ _ t.0
+      reads-here is_new _ _ xs call args _ _ t.0
           (sym c.in_default.is ∙ (c.other_macro.ensures
           ∙ ap (λ v. skipped_reading (scope c.args.file) c.args.call.now.rule
           (slice_get v c.args.call.now.name)) c.tokens-tokens.ensures))

@@ -1,7 +1,6 @@
 use Rattle.std.proofs.Common.{◌∙◌, ap, refl}
 use Rattle.std.proofs.lemmas.Result.{IfOk-weaker}
-use Rattle.asm_lint.specs.Literals.{appends_newline}
-use Rattle.source_lint.specs.Readings.{captures_variables}
+use Rattle.source_lint.specs.Readings.{captures_variables, newline_of, scope}
 use Rattle.source_lint.proofs.Calling.{reads-by}
 use Rattle.source_lint.proofs.readings.read_with.Goals as goal
 
@@ -14,7 +13,7 @@ returns-clause-read c =
       r.0,
       r.1,
       reads-by _ _ _ _ _ _ _ _ _ _ _
-          (c.appends_newline-appended_newline.ensures ∙ ap appends_newline name)
+          (c.newline_of-appended_newline.ensures ∙ ap (newline_of (scope c.args.file)) name)
           (c.captures_variables-captures_variables.ensures
           ∙ ap (captures_variables c.args.file.is_from_2021 c.args.call.now.rule) name)
           refl refl r.2,

@@ -47,6 +47,7 @@ fn may_inline(facts: &PackageFacts, clippy: ClippyVersion) -> bool {
 
 impl Packages {
     /// Returns the index of the reason why the manifest of a package was not understood.
+    #[inline(never)]
     fn fail_member(
         &mut self,
         rt: &crate::shim::host::HostRuntime,
@@ -61,6 +62,7 @@ impl Packages {
     }
 
     /// Adds a package, and returns its index.
+    #[inline(never)]
     fn add_package(
         &mut self,
         rt: &crate::shim::host::HostRuntime,
@@ -99,6 +101,7 @@ impl Packages {
     }
 
     /// Adds the package of a manifest that was not understood, and returns its index.
+    #[inline(never)]
     fn add_failed(
         &mut self,
         rt: &crate::shim::host::HostRuntime,
@@ -119,6 +122,7 @@ impl Packages {
     }
 
     /// Returns what is known of a folder, by its files and what is known of the one above it.
+    #[inline(never)]
     fn look_into(
         &mut self,
         rt: &crate::shim::host::HostRuntime,
@@ -162,6 +166,7 @@ impl Packages {
     }
 
     /// Returns what is known of the folder with this path from the root on.
+    #[inline(never)]
     pub(crate) fn folder_at(
         &mut self,
         rt: &crate::shim::host::HostRuntime,

@@ -4,6 +4,7 @@
 // That source has the contracts, and is proved. That this text means the same is only tested.
 
 use super::{ManifestFailure, ManifestFault, Packages};
+use crate::proved::file_paths::is_plain;
 use crate::proved::manifest::document::{read_toml, Refusal};
 use crate::proved::manifest::facts::clippy_version;
 use crate::proved::manifest::settings::{package_setting, Setting};
@@ -44,6 +45,7 @@ pub(crate) enum ClippyVersion {
 }
 
 /// Returns the bytes of a file, up to one more than are read, or `None` if there is no file.
+#[inline(never)]
 fn bytes_at(rt: &crate::shim::host::HostRuntime, path: &str) -> io::Result<Option<Vec<u8>>> {
     match fs::metadata(rt, path) {
         Ok(data) if data.is_file() => {}
@@ -66,6 +68,7 @@ fn place_in(rt: &crate::shim::host::HostRuntime, text: &str, offset: usize) -> i
 
 /// Returns the table that bytes are as TOML, or the reason why they are none. Returns an error if
 /// an allocation fails.
+#[inline(never)]
 fn toml_in(
     rt: &crate::shim::host::HostRuntime,
     bytes: &[u8],
@@ -103,6 +106,7 @@ impl Packages {
 
     /// Adds the reason why a file was not understood, and returns its index. Returns an error if an
     /// allocation fails.
+    #[inline(never)]
     pub(crate) fn fail(
         &mut self,
         rt: &crate::shim::host::HostRuntime,
@@ -119,6 +123,7 @@ impl Packages {
     }
 
     /// Reads a file as TOML.
+    #[inline(never)]
     fn read_file(&mut self, rt: &crate::shim::host::HostRuntime, path: &str) -> io::Result<Found> {
         let fault = match bytes_at(rt, path) {
             Ok(None) => return Ok(Found::Absent),
@@ -136,6 +141,7 @@ impl Packages {
     }
 
     /// Reads the Cargo.toml in a folder, the first time.
+    #[inline(never)]
     pub(crate) fn read_manifest(
         &mut self,
         rt: &crate::shim::host::HostRuntime,
@@ -151,6 +157,7 @@ impl Packages {
     }
 
     /// Returns the version of Rust in the clippy.toml in a folder, or above it.
+    #[inline(never)]
     pub(crate) fn read_clippy(
         &mut self,
         rt: &crate::shim::host::HostRuntime,
@@ -184,6 +191,7 @@ impl Packages {
 
     /// Returns what became of the manifest of the workspace to which a package refers, where
     /// `nearest` is that above it.
+    #[inline(never)]
     pub(crate) fn workspace_of(
         &mut self,
         rt: &crate::shim::host::HostRuntime,
@@ -193,6 +201,7 @@ impl Packages {
     ) -> io::Result<Found> {
         let path = match self.manifests.get(manifest) {
             Some(manifest) => match package_setting(manifest, "workspace") {
+                Setting::Text(path) if !is_plain(path) => return Ok(Found::Absent),
                 Setting::Text(path) => crate::shim::try_format!("{folder}/{path}")?,
                 _ => return Ok(nearest),
             },

@@ -4,7 +4,7 @@
 // That source has the contracts, and is proved. That this text means the same is only tested.
 
 use crate::proved::rustc_parse_format::blocks::plain_front;
-use crate::proved::rustc_parse_format::characters::{after_first, first, split_run, Class};
+use crate::proved::rustc_parse_format::characters::{after_first, begins, first, split_run, Class};
 use crate::shim::prelude::*;
 
 /// The rest of a text.
@@ -96,7 +96,7 @@ impl<'a> Rest<'a> {
     /// Returns whether the rest begins with a string continuation: a backslash and an LF.
     #[inline(always)]
     pub fn begins_continuation(&self) -> bool {
-        self.begins_with('\\') && first(after_first(self.text)) == Some('\n')
+        begins(self.text, '\\') && begins(after_first(self.text), '\n')
     }
 
     /// Skips all string continuations at the start of the rest of a content with its closing quote.

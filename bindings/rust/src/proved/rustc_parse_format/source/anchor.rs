@@ -99,6 +99,46 @@ fn character_at(snippet: &str, at: usize) -> CharacterEnd {
     }
 }
 
+/// Returns whether the bytes begin with `\x`, and no LF is where a continuation after that escape
+/// would have it.
+#[inline(always)]
+fn begins_byte_escape(bytes: &[u8]) -> bool {
+    if bytes.len() < 6 || bytes[0] != b'\\' || bytes[1] != b'x' {
+        return false;
+    }
+    bytes[5] != b'\n'
+}
+
+/// Returns whether a backslash and this letter are an escape.
+#[inline(always)]
+fn is_escape_letter(letter: u8) -> bool {
+    matches!(letter, b'n' | b'r' | b't' | b'0' | b'\'' | b'"' | b'\\')
+}
+
+/// Returns whether the bytes begin with an escape of a backslash and a letter, and no LF is where a
+/// continuation after it would have it.
+#[inline(always)]
+fn begins_letter_escape(bytes: &[u8]) -> bool {
+    if bytes.len() < 4 || bytes[0] != b'\\' || bytes[3] == b'\n' {
+        return false;
+    }
+    is_escape_letter(bytes[1])
+}
+
+/// Returns the byte offset in a snippet at which the character after the one at `at` starts. Most
+/// escapes are passed by their first letter, for speed.
+#[inline(always)]
+fn next_start(snippet: &str, at: usize) -> usize {
+    let bytes = snippet.as_bytes();
+    if begins_byte_escape(&bytes[at..]) {
+        return at + 4;
+    }
+    if begins_letter_escape(&bytes[at..]) {
+        return at + 2;
+    }
+    character_at(snippet, at).next
+}
+
 /// Returns the number of bytes from the byte offset `at` on up to the next backslash, or up to the
 /// closing quote if there is none.
 #[inline(always)]
@@ -154,7 +194,7 @@ impl<'input> Anchor<'input> {
     fn offset_by_look(&self, snippet: &str, rest: &'input str) -> usize {
         let mut at = self.after_unescaped(snippet, rest);
         while at.0.len() > rest.len() {
-            let next = character_at(snippet, at.1).next;
+            let next = next_start(snippet, at.1);
             at = Anchor::new(snippet, after_first(at.0), next).after_unescaped(snippet, rest);
         }
         at.1

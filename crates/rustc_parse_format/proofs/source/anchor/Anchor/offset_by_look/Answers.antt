@@ -4,12 +4,12 @@ use Rattle.rustc_parse_format.proofs.Sources.PlainPlaces.{left}
 use Rattle.rustc_parse_format.proofs.Sources.Moves.{front_gone, front_left, left_from, shorter}
 use Rattle.rustc_parse_format.proofs.source.anchor.Anchor.offset_by_look.Goals as goal
 
-pub character_at-next-requires-clause-within : goal.character_at-next-requires-clause-within
-character_at-next-requires-clause-within c =
+pub next_start-next-requires-clause-within : goal.next_start-next-requires-clause-within
+next_start-next-requires-clause-within c =
     (c.loop-at.invariant.here c.requires.here.0 c.requires.here.1).within
 
-pub character_at-next-requires-clause-valid : goal.character_at-next-requires-clause-valid
-character_at-next-requires-clause-valid c =
+pub next_start-next-requires-clause-valid : goal.next_start-next-requires-clause-valid
+next_start-next-requires-clause-valid c =
     (c.loop-at.invariant.here c.requires.here.0 c.requires.here.1).valid
 
 pub new-requires : goal.new-requires
@@ -18,7 +18,7 @@ new-requires c =
     let here = c.loop-at.invariant.here w c.requires.here.1 in (
       w,
       rw c.after_first.ensures.rest
-          (c.character_at-next.ensures.after w (chars c.loop-at.at.0.now) here),
+          (c.next_start-next.ensures w (chars c.loop-at.at.0.now) here),
     )
 
 pub after_unescaped-at-requires-in-loop-at : goal.after_unescaped-at-requires-in-loop-at
@@ -41,7 +41,7 @@ after_unescaped-at-requires-in-loop-at c =
         w,
         c.new.ensures.anchor w
             (rw c.after_first.ensures.rest
-            (c.character_at-next.ensures.after w (chars text) here)),
+            (c.next_start-next.ensures w (chars text) here)),
       );
     }
 
@@ -62,7 +62,7 @@ loop-at-preserved c = record {
   after = c.after_unescaped-at-in-loop-at.ensures.after;
   here = λ w h. c.after_unescaped-at-in-loop-at.ensures.here w (c.new.ensures.anchor w
       (rw c.after_first.ensures.rest
-      (c.character_at-next.ensures.after w (chars c.loop-at.at.0.now)
+      (c.next_start-next.ensures w (chars c.loop-at.at.0.now)
       (c.loop-at.invariant.here w h))));
 }
 

@@ -1,7 +1,0 @@
-//! Tests of `rust_trees` and `format_calls`. Places are those that rustc 1.95 reports; the other
-//! expected values are worked out by hand from the Rust Reference.
-#![tactic(auto)]
-
-mod strings;
-#[cfg(test)]
-mod tests;
