@@ -16,14 +16,20 @@ inside a word, and e an empty word. A line that begins with # and a space is no 
 import argparse
 import os
 import re
+import signal
 import subprocess
 import sys
 from concurrent.futures import ThreadPoolExecutor
 from pathlib import Path
 
 HERE = Path(__file__).resolve().parent
+sys.dont_write_bytecode = True
+sys.path.insert(0, str(HERE.parent / "tools"))
+import limited  # noqa: E402
+
 NAMED = {"n": b"\n", "t": b"\t", "r": b"\r", "\\": b"\\", "s": b" ", "e": b""}
 LIMIT = 1048576
+# The seconds of a processor that a case may take.
 SECONDS = 240
 # How many cases there are: one that is lost is a failure.
 CASES = 1490
@@ -114,18 +120,18 @@ def made_cases():
 
 def fault(program, words, given, refusal, wanted, status, fails=None):
     """Why a case failed, or nothing. A stream may fail: a folder can be opened but not read."""
-    how = {"input": given, "stdout": subprocess.PIPE, "stderr": subprocess.PIPE}
+    how = {"stdout": subprocess.PIPE, "stderr": subprocess.PIPE}
     opened = os.open("/" if fails == "read" else "/dev/full", os.O_WRONLY * (fails == "write"))
     if fails == "read":
-        how = {"stdin": opened, "stdout": subprocess.PIPE, "stderr": subprocess.PIPE}
+        how["stdin"], given = opened, None
     if fails == "write":
         how["stdout"] = opened
     try:
-        ran = subprocess.run([program, *words], timeout=SECONDS, **how)
-    except subprocess.TimeoutExpired:
-        return f"no end within {SECONDS} seconds"
+        ran = limited.run([program, *words], SECONDS, given, **how)
     finally:
         os.close(opened)
+    if ran.returncode == -signal.SIGKILL:
+        return f"no end within {SECONDS} seconds of a processor"
     pairs = [("standard error", ran.stderr, SAYS[refusal].encode())]
     pairs += [("status", ran.returncode, status), ("standard output", ran.stdout or b"", wanted)]
     return "; ".join(f"{it}: {got!r:.500}, wanted {x!r:.500}" for it, got, x in pairs if got != x)
