@@ -25,6 +25,8 @@ FEATURES = ("lint", "programs")
 GATED = re.compile(r'#\[cfg\(feature = "(\w+)"\)\]\s*(?:#\[.*\]\s*)*(?:pub )?mod (\w+);')
 # The crates of which each function can be inlined: those that read the bytes of all texts and files
 INLINED = ("rustc_parse_format", "rust_tokens", "rust_trees")
+# Files of these that make the texts of errors: each call would get a copy of its own
+SELDOM = {("rustc_parse_format", "messages.rt"), ("rustc_parse_format", "escapes.rt")}
 # Others, whose functions run for each token of a file or each character that is drawn
 FREQUENT = ("format_calls", "macro_owners", "call_forms", "source_lint", "drawn_lines", "drawn_labels",
             "shown_text")
@@ -50,6 +52,7 @@ class Read:
                         for crate, folder in crates.items() for path in sorted(folder.rglob("*.rt"))]
         self.empty, self.fields = ghosts.empty_types(self.sources)
         self.lookers, self.functions = ghosts.lookers(self.sources), functions_of(self.sources)
+        self.own = set()
         takers = [in_place(it.path, allocators.takers, it) for it in self.sources]
         self.takers = allocators.TAKING.union(*takers)
         for source in self.sources:
@@ -57,6 +60,7 @@ class Read:
 
     def erase(self, source):
         source.lookers, source.functions, source.takers = self.lookers, self.functions, self.takers
+        source.own = self.own
         in_place(source.path, ghosts.erase, source, self.empty, self.fields)
 
     def replace(self, path, text):
@@ -83,6 +87,8 @@ class Read:
         for rank, paths in enumerate((callers, *of_features)):
             needs.add_callers(paths, rank)
         needs.note_passed()
+        self.own |= {(it.crate, item.name) for it in self.sources for item in it.items_inside()
+                     if item.is_kept and item.kind == "fn" and item.of}
         cloned = {item.name for source in self.sources for item in source.items
                   if any(clones_in(source, part) for part in item.parts)}
         self.needs, self.cloned = needs, cloned
@@ -410,7 +416,8 @@ def head_of(source, item):
         words = source.texts(item.start, item.head)
         length = len(source.places(item.open, item.last))
         attribute = ""
-        if source.crate in INLINED or length <= SHORT:
+        is_inlined = source.crate in INLINED and (source.crate, source.name) not in SELDOM
+        if is_inlined or length <= SHORT:
             attribute = "#[inline]\n"
         elif length > LONG and source.crate not in FREQUENT:
             attribute = "#[inline(never)]\n"

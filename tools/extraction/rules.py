@@ -27,10 +27,12 @@ LIBRARY = {"clap": "crate::shim::clap", "file_paths::args": "crate::shim::host::
            "std::time::Instant": "crate::shim::host::Instant",
            "strsim": "crate::shim::strsim", "toml": "crate::shim::toml", "unicode_ident": "crate::shim::unicode_ident",
            "unicode_width": "crate::shim::unicode_width"}
-# Calls that may return an allocation failure. In Rust they are methods of the shim's traits.
-CONSTRUCTORS = {("Box", "new"): "made_of", ("String", "from_str"): "made_from",
-                ("String", "from_utf8_lossy"): "made_from_bytes",
-                ("String", "with_capacity"): "made_for", ("Vec", "with_capacity"): "made_for"}
+# Calls that may return an allocation failure, and those of Rust, which are made where `?` answers that
+# on the spot: rustc takes much longer over an error that never comes. Otherwise, and where a crate
+# has a method of the name, they are methods of the shim's traits.
+CONSTRUCTORS = {("Box", "new"): "new", ("String", "from_str"): "from",
+                ("String", "with_capacity"): "with_capacity", ("Vec", "with_capacity"): "with_capacity"}
+PASSED_ON = {("String", "from_str"): "made_from", ("String", "from_utf8_lossy"): "made_from_bytes"}
 # The names of a module of the library that may stand by themselves or after it.
 NAMED = {"env": {"args", "var"},
          "fs": {"DirEntry", "File", "Metadata", "OpenOptions", "canonicalize", "metadata", "open",
@@ -39,31 +41,18 @@ NAMED = {"env": {"args", "var"},
 # Constructors that take no memory.
 PLAIN = {("BTreeMap", "new"), ("BTreeSet", "new"), ("String", "from_utf8"), ("String", "new"),
          ("Vec", "new")}
-METHODS = {
-    "push": "try_push",
-    "push_str": "try_push_str",
-    "insert": "insert_in",
-    "append": "try_append",
-    "extend": "try_extend",
-    "extend_from_slice": "try_extend_from_slice",
-    "reserve": "try_reserve_more",
-    "sort": "sort_in",
-    "sort_by_key": "sort_by_key_in",
-    "clone": "try_clone",
-    "collect": "collect_in",
-    # of the standard library only since Rust 1.91
-    "floor_char_boundary": "boundary_at_most",
-    # of the standard library only since Rust 1.80
-    "split_at_checked": "parts_at",
-    "trim_ascii_start": "after_ascii_space",
-    "trim_ascii_end": "before_ascii_space",
-}
+ALLOCATING = {"push": "try_push", "push_str": "try_push_str",
+              **dict.fromkeys(("append", "clone", "collect", "extend", "extend_from_slice", "insert",
+                               "reserve", "sort", "sort_by_key"))}
+# Methods that are of the standard library only since Rust 1.91 and 1.80
+YOUNG = {"floor_char_boundary": "boundary_at_most", "split_at_checked": "parts_at",
+         "trim_ascii_start": "after_ascii_space", "trim_ascii_end": "before_ascii_space"}
 # Methods of `Option` that are only in younger libraries, and the value that they have for `None`.
 TESTS = {"is_some_and": "false", "is_none_or": "true"}
 # Words with which a path may begin besides those that a file names, and names of a plain type.
 KNOWN = ("super", "char", "u8", "u8x16", "u16", "u32", "u64", "usize")
 OF_PLAIN = {"MAX", "from", "from_slice", "from_u32", "is_whitespace", "splat"}
-MACROS = {"matches": "matches", "format": "crate::shim::try_format", "vec": "crate::shim::try_vec",
+MACROS = {"matches": "matches", "format": "crate::shim::try_format", "vec": None,
           "eprint": "crate::shim::eprint_in", "eprintln": "crate::shim::eprintln_in"}
 # Traits that are named only where they are imported, by the calls of their methods.
 TRAITS = {(".", "width", 0): "UnicodeWidthChar", (".", "is_terminal", 0): "IsTerminal",
@@ -129,7 +118,8 @@ def rewrite(source, item, crate, crates):
         if item.start <= at <= item.last:
             source.refuse(at, f"`{text}` in what is done to a value that takes no bytes")
     if item.of and item.kind == "fn" and (
-            item.name in TESTS or item.name in METHODS and not item.allocates):
+            item.name in (*TESTS, *YOUNG)
+            or item.name in ALLOCATING and not (item.allocates and ALLOCATING[item.name])):
         source.refuse(item.head, f"a method `{item.name}`, of which a call is read as the library's")
     uses_shim = False
     for at in source.places(item.start, item.last):
@@ -154,19 +144,31 @@ def rewrite(source, item, crate, crates):
                 called = source.next(at, 2)
                 name = text, source.text(called)
                 is_called = source.text(source.next(called)) == "("
-                if is_called and name in CONSTRUCTORS:
+                if is_called and name in CONSTRUCTORS and is_answered(source, called):
                     source.tokens[called].text = CONSTRUCTORS[name]
+                elif is_called and name in PASSED_ON:
+                    source.tokens[called].text = PASSED_ON[name]
                     uses_shim = True
                 elif not is_called or name not in PLAIN:
                     source.refuse(called, f"a call `{'::'.join(name)}`")
             elif text[0].islower() and text not in (*KNOWN, *modules_of(source), *source.imports()):
                 source.refuse(at, f"a path that begins with `{text}`")
-        elif (source.is_word(at) and text in METHODS and behind == "("
+        elif source.is_word(at) and text in YOUNG and before == "." and behind == "(":
+            source.tokens[at].text = YOUNG[text]
+            uses_shim = True
+        elif (source.is_word(at) and text in ALLOCATING and behind == "("
               and (before == "." or before == "fn" and item.of)):
-            if (text == "clone" and before == "."
-                and source.text(source.next(source.close(source.next(at)))) != "?"):
-                source.refuse(at, "a clone whose refusal is not answered on the spot")
-            source.tokens[at].text = METHODS[text]
+            is_own = (crate, text) in source.own
+            if before == "." and not is_own and is_answered(source, at):
+                continue
+            if not ALLOCATING[text]:
+                source.refuse(at, f"a `{text}` whose refusal is not answered on the spot")
+            source.tokens[at].text = ALLOCATING[text]
+            uses_shim = True
+        elif (text == "contains" and before == "."
+              and source.tokens[source.next(at, 2)].kind == "string"):
+            # of a text, of which one copy is enough
+            source.tokens[at].text = "has_text"
             uses_shim = True
         elif text in TESTS and before == "." and behind == "(":
             source.tokens[at].text = "map_or"
@@ -188,6 +190,17 @@ def rewrite(source, item, crate, crates):
         elif text != "static" or at != item.head:
             refuse_unknown(source, at)
     return uses_shim
+
+
+def is_answered(source, at):
+    """Whether `?` stands right behind a call, whose name is given, or a macro, whose bracket is. Then it
+    is left out."""
+    opening = at if source.text(at) in ("(", "[", "{") else source.next(at)
+    behind = source.next(source.close(opening))
+    if source.text(behind) != "?":
+        return False
+    source.tokens[behind].text = ""
+    return True
 
 
 def unsaid(source, item):
@@ -264,7 +277,10 @@ def macro(source, at):
     if (name in ("eprint", "eprintln")
             and [source.text(inner), source.text(source.next(inner))] != ["rt", ";"]):
         source.refuse(at, f"an `{name}!` without the process")
-    source.tokens[at].text = MACROS[name]
+    is_plain = name in ("format", "vec") and is_answered(source, opening)
+    if name == "vec" and not is_plain:
+        source.refuse(at, "a `vec!` whose refusal is not answered on the spot")
+    source.tokens[at].text = f"::alloc::{name}" if is_plain else MACROS[name]
 
 
 def repeats(source, first, end):

@@ -26,7 +26,7 @@ class Source:
 
     def __init__(self, name, text, has_items=True):
         self.name, self.tokens, self.items, self.doubts = name, tokens_of(text), [], []
-        self.lookers, self.functions, self.takers = set(), set(), set()
+        self.lookers, self.functions, self.takers, self.own = set(), set(), set(), set()
         self.streams, self.named = [], None
         at = 0
         while at < len(self.tokens) and (self.tokens[at].kind == "space"

@@ -1,8 +1,6 @@
 //! Allocation. In Rust an allocation failure aborts, so it is never returned as an error:
 //! `AllocError` has no value, a `Result` with it is always `Ok`, and each `?` on one compiles to
 //! nothing.
-use alloc::boxed::Box;
-use alloc::collections::{BTreeMap, BTreeSet};
 use alloc::string::String;
 use alloc::vec::Vec;
 
@@ -38,122 +36,28 @@ pub fn refused<T>() -> T {
     panic!("capacity overflow")
 }
 
-/// The method of `Box` that may return an allocation failure.
-pub trait BoxIn<T>: Sized {
-    fn made_of(value: T) -> Result<Self, AllocError>;
-}
-
-impl<T> BoxIn<T> for Box<T> {
-    #[inline(always)]
-    fn made_of(value: T) -> Result<Box<T>, AllocError> {
-        Ok(Box::new(value))
-    }
-}
-
-/// The methods of `Vec` that may return an allocation failure.
-pub trait VecIn<T>: Sized {
-    fn made_for(room: usize) -> Result<Self, AllocError>;
+/// The method of `Vec` that may return an allocation failure.
+pub trait VecIn<T> {
     fn try_push(&mut self, item: T) -> Result<(), AllocError>;
-    fn insert_in(&mut self, at: usize, item: T) -> Result<(), AllocError>;
-    fn try_append(&mut self, items: &mut Self) -> Result<(), AllocError>;
-    fn try_extend_from_slice(&mut self, items: &[T]) -> Result<(), AllocError>
-    where
-        T: Copy;
-    fn sort_in(&mut self) -> Result<(), AllocError>
-    where
-        T: Ord;
-    fn sort_by_key_in<K: Ord, F: FnMut(&T) -> K>(&mut self, key: F) -> Result<(), AllocError>;
 }
 
 impl<T> VecIn<T> for Vec<T> {
-    #[inline(always)]
-    fn made_for(room: usize) -> Result<Vec<T>, AllocError> {
-        Ok(Vec::with_capacity(room))
-    }
-
     #[inline(always)]
     fn try_push(&mut self, item: T) -> Result<(), AllocError> {
         self.push(item);
         Ok(())
     }
-
-    #[inline(always)]
-    fn insert_in(&mut self, at: usize, item: T) -> Result<(), AllocError> {
-        self.insert(at, item);
-        Ok(())
-    }
-
-    #[inline(always)]
-    fn try_append(&mut self, items: &mut Vec<T>) -> Result<(), AllocError> {
-        self.append(items);
-        Ok(())
-    }
-
-    #[inline(always)]
-    fn try_extend_from_slice(&mut self, items: &[T]) -> Result<(), AllocError>
-    where
-        T: Copy,
-    {
-        self.extend_from_slice(items);
-        Ok(())
-    }
-
-    #[inline(always)]
-    fn sort_in(&mut self) -> Result<(), AllocError>
-    where
-        T: Ord,
-    {
-        self.sort();
-        Ok(())
-    }
-
-    #[inline(always)]
-    fn sort_by_key_in<K: Ord, F: FnMut(&T) -> K>(&mut self, key: F) -> Result<(), AllocError> {
-        self.sort_by_key(key);
-        Ok(())
-    }
-}
-
-/// The methods of `BTreeSet` that may return an allocation failure.
-pub trait SetIn<T>: Sized {
-    fn insert_in(&mut self, item: T) -> Result<bool, AllocError>;
-}
-
-impl<T: Ord> SetIn<T> for BTreeSet<T> {
-    #[inline(always)]
-    fn insert_in(&mut self, item: T) -> Result<bool, AllocError> {
-        Ok(self.insert(item))
-    }
-}
-
-/// The methods of `BTreeMap` that may return an allocation failure.
-pub trait MapIn<K, V>: Sized {
-    fn insert_in(&mut self, key: K, value: V) -> Result<Option<V>, AllocError>;
-}
-
-impl<K: Ord, V> MapIn<K, V> for BTreeMap<K, V> {
-    #[inline(always)]
-    fn insert_in(&mut self, key: K, value: V) -> Result<Option<V>, AllocError> {
-        Ok(self.insert(key, value))
-    }
 }
 
 /// The methods of `String` that may return an allocation failure.
 pub trait StringIn: Sized {
-    fn made_for(room: usize) -> Result<Self, AllocError>;
     fn made_from(text: &str) -> Result<Self, AllocError>;
     fn made_from_bytes(bytes: &[u8]) -> Result<Self, AllocError>;
     fn try_push(&mut self, c: char) -> Result<(), AllocError>;
     fn try_push_str(&mut self, text: &str) -> Result<(), AllocError>;
-    fn try_reserve_more(&mut self, room: usize) -> Result<(), AllocError>;
 }
 
 impl StringIn for String {
-    #[inline(always)]
-    fn made_for(room: usize) -> Result<String, AllocError> {
-        Ok(String::with_capacity(room))
-    }
-
     #[inline(always)]
     fn made_from(text: &str) -> Result<String, AllocError> {
         Ok(String::from(text))
@@ -175,25 +79,14 @@ impl StringIn for String {
         self.push_str(text);
         Ok(())
     }
-
-    #[inline(always)]
-    fn try_reserve_more(&mut self, room: usize) -> Result<(), AllocError> {
-        self.reserve(room);
-        Ok(())
-    }
 }
 
-/// The methods of iterators that may return an allocation failure.
-pub trait IterIn: Iterator + Sized {
-    fn collect_in<C: FromIterator<Self::Item>>(self) -> Result<C, AllocError> {
-        Ok(self.collect())
-    }
-}
-
-impl<I: Iterator> IterIn for I {}
-
-/// Methods of `str` that older versions of the standard library do not have.
+/// Methods of `str` that older versions of the standard library do not have, and one of which it
+/// makes a copy for each part of a crate.
 pub trait StrIn {
+    /// Returns whether a text occurs, as `contains` of the standard library does.
+    fn has_text(&self, text: &str) -> bool;
+
     /// Returns the last byte offset that is at most `at` and a character boundary. In the standard
     /// library this is `floor_char_boundary`, which is recent.
     fn boundary_at_most(&self, at: usize) -> usize;
@@ -212,6 +105,11 @@ pub trait StrIn {
 }
 
 impl StrIn for str {
+    #[inline(never)]
+    fn has_text(&self, text: &str) -> bool {
+        self.contains(text)
+    }
+
     #[inline(always)]
     fn boundary_at_most(&self, at: usize) -> usize {
         if at >= self.len() {

@@ -33,7 +33,7 @@ mod xid;
 /// The traits that give the types of Rust's standard library the methods that the extracted modules
 /// call, and the types that `core` does not have.
 pub mod prelude {
-    pub use super::alloc::{BoxIn, IterIn, MapIn, SetIn, StrIn, StringIn, VecIn};
+    pub use super::alloc::{StrIn, StringIn, VecIn};
     pub use ::alloc::{boxed::Box, string::String, vec::Vec};
 }
 
@@ -44,15 +44,6 @@ macro_rules! try_format {
     };
 }
 pub(crate) use try_format;
-
-/// `vec![in alloc; item; count]` without the allocator: returns the list, or `Err` if an
-/// allocation fails.
-macro_rules! try_vec {
-    ($item:expr; $count:expr) => {
-        Ok::<_, $crate::shim::alloc::AllocError>(::alloc::vec![$item; $count])
-    };
-}
-pub(crate) use try_vec;
 
 /// `eprintln!(rt; ..)`: writes a line to standard error, and returns why that failed.
 macro_rules! eprintln_in {

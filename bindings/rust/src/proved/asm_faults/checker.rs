@@ -34,7 +34,7 @@ fn compare<'a>(
     let fault = push_templates(&mut walk, templates)?;
     look_up(faults, operands, &walk.lookups)?;
     match fault {
-        Some(fault) => faults.try_push(fault)?,
+        Some(fault) => faults.push(fault),
         None => check_unused(faults, operands, &walk.lookups)?,
     }
     Ok(())

@@ -25,7 +25,7 @@ fn meant<'a>(operands: &Operands<'a>, lookup: &Lookup<'a>) -> Option<usize> {
 /// Returns of each operand whether a lookup means it.
 #[inline(never)]
 fn marks<'a>(operands: &Operands<'a>, lookups: &[Lookup<'a>]) -> Result<Vec<bool>, AllocError> {
-    let mut marks = crate::shim::try_vec![false; operands.slots.len()]?;
+    let mut marks = ::alloc::vec![false; operands.slots.len()];
     for lookup in lookups {
         if let Some(index) = meant(operands, lookup) {
             if index < marks.len() {
@@ -49,7 +49,7 @@ fn push_unmarked(
     slot: &Operand<'_>,
 ) -> Result<(), AllocError> {
     if !is_settled(marks, index, slot) {
-        unused_indices.try_push(index)?;
+        unused_indices.push(index);
     }
     Ok(())
 }
@@ -102,7 +102,7 @@ pub(crate) fn look_up<'a>(
     let positional_count = count_unnamed(&operands.slots);
     for lookup in lookups {
         if let Some(fault) = fault_of(operands, positional_count, lookup) {
-            faults.try_push(fault)?;
+            faults.push(fault);
         }
     }
     Ok(())
@@ -114,7 +114,7 @@ fn push_unused(
     unused_indices: Vec<usize>,
 ) -> Result<(), AllocError> {
     if !unused_indices.is_empty() {
-        faults.try_push(AsmFault::UnusedOperands(unused_indices))?;
+        faults.push(AsmFault::UnusedOperands(unused_indices));
     }
     Ok(())
 }

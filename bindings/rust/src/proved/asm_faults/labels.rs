@@ -31,12 +31,12 @@ fn push_label(
     is_primary: bool,
     text: &str,
 ) -> Result<(), AllocError> {
-    let text = String::made_from(text)?;
-    labels.try_push(AsmLabel {
+    let text = String::from(text);
+    labels.push(AsmLabel {
         spot,
         is_primary,
         text,
-    })?;
+    });
     Ok(())
 }
 
@@ -123,8 +123,8 @@ fn push_second(
 
 /// Returns the text of the place of an error of a template.
 fn error_text(error: &ParseError) -> Result<String, AllocError> {
-    let mut text = String::made_from(&error.label)?;
-    text.try_push_str(" in asm template string")?;
+    let mut text = String::from(&error.label);
+    text.push_str(" in asm template string");
     Ok(text)
 }
 

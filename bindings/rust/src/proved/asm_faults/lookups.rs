@@ -98,17 +98,16 @@ fn is_long(ty: &str) -> bool {
 }
 
 /// Adds the lookup for the modifier of a placeholder.
-#[inline(never)]
 fn push_modifier<'a>(
     lookups: &mut Vec<Lookup<'a>>,
     template: usize,
     argument: &Argument<'a>,
 ) -> Result<(), AllocError> {
     if is_long(argument.format.ty) {
-        lookups.try_push(Lookup::LongModifier(spot_of(
+        lookups.push(Lookup::LongModifier(spot_of(
             template,
             &argument.format.ty_span,
-        )))?;
+        )));
     }
     Ok(())
 }
@@ -122,7 +121,7 @@ fn push_argument<'a>(
     argument: &Argument<'a>,
 ) -> Result<(), AllocError> {
     let lookup = position_lookup(template, walk.next, spot, argument);
-    walk.lookups.try_push(lookup)?;
+    walk.lookups.push(lookup);
     if is_next(&argument.position) {
         walk.next += 1;
     }

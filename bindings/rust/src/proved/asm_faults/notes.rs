@@ -28,8 +28,8 @@ fn push_note(
     text: &str,
     spot: Option<AsmSpot>,
 ) -> Result<(), AllocError> {
-    let text = String::made_from(text)?;
-    notes.try_push(AsmNote { text, spot })?;
+    let text = String::from(text);
+    notes.push(AsmNote { text, spot });
     Ok(())
 }
 
@@ -47,21 +47,21 @@ fn noun(operands: &[Operand<'_>], count: usize) -> &'static str {
 #[inline(never)]
 fn put_count(out: &mut String, count: usize, word: &str) -> Result<(), AllocError> {
     if count == 0 {
-        out.try_push_str("no ")?;
-        out.try_push_str(word)?;
-        out.try_push_str("s were given")?;
+        out.push_str("no ");
+        out.push_str(word);
+        out.push_str("s were given");
         return Ok(());
     }
     if count == 1 {
-        out.try_push_str("there is 1 ")?;
-        out.try_push_str(word)?;
+        out.push_str("there is 1 ");
+        out.push_str(word);
         return Ok(());
     }
-    out.try_push_str("there are ")?;
+    out.push_str("there are ");
     put_number(out, count)?;
-    out.try_push_str(" ")?;
-    out.try_push_str(word)?;
-    out.try_push_str("s")?;
+    out.push_str(" ");
+    out.push_str(word);
+    out.push_str("s");
     Ok(())
 }
 
@@ -114,7 +114,7 @@ fn wrong_help(operands: &[Operand<'_>], index: usize) -> Result<Option<AsmNote>,
     match operands.get(index) {
         Some(Operand::Register { .. }) => {
             let message = "use the register name directly in the assembly code";
-            let text = String::made_from(message)?;
+            let text = String::from(message);
             let spot = Some(AsmSpot::Operand(index));
             Ok(Some(AsmNote { text, spot }))
         }
@@ -134,7 +134,7 @@ fn push_text(notes: &mut Vec<AsmNote>, fault: &Fault<'_>) -> Result<(), AllocErr
 /// Adds a name.
 #[inline]
 fn put_name(out: &mut String, name: &str) -> Result<(), AllocError> {
-    out.try_push_str(name)?;
+    out.push_str(name);
     Ok(())
 }
 
@@ -155,9 +155,9 @@ fn put_placeholders(
 ) -> Result<(), AllocError> {
     let mut rest = indices;
     while let Some((index, others)) = rest.split_first() {
-        out.try_push_str(" {")?;
+        out.push_str(" {");
         put_reference(out, *index, given_name(operands, *index))?;
-        out.try_push_str("}")?;
+        out.push_str("}");
         rest = others;
     }
     Ok(())
@@ -176,9 +176,9 @@ fn unused_start(count: usize) -> &'static str {
 /// Returns the help of operands that are not used.
 #[inline(never)]
 fn unused_help(operands: &[Operand<'_>], unused_indices: &[usize]) -> Result<AsmNote, AllocError> {
-    let mut text = String::made_from(unused_start(unused_indices.len()))?;
+    let mut text = String::from(unused_start(unused_indices.len()));
     put_placeholders(&mut text, operands, unused_indices)?;
-    text.try_push_str(" */\"`")?;
+    text.push_str(" */\"`");
     Ok(AsmNote { text, spot: None })
 }
 

@@ -61,7 +61,7 @@ fn insert<'a>(
     name: &'a str,
     index: usize,
 ) -> Result<(), AllocError> {
-    names.insert_in(name, index)?;
+    names.insert(name, index);
     Ok(())
 }
 
@@ -76,8 +76,8 @@ fn first_of(indices: &[usize]) -> &[usize] {
 #[inline(never)]
 fn others_of(operands: &Operands<'_>) -> Result<Vec<usize>, AllocError> {
     let mut earlier_operands = Vec::new();
-    earlier_operands.try_extend_from_slice(first_of(&operands.named_operands))?;
-    earlier_operands.try_extend_from_slice(first_of(&operands.registers))?;
+    earlier_operands.extend_from_slice(first_of(&operands.named_operands));
+    earlier_operands.extend_from_slice(first_of(&operands.registers));
     Ok(earlier_operands)
 }
 
@@ -89,10 +89,10 @@ fn push_late(
     earlier_operands: Vec<usize>,
 ) -> Result<(), AllocError> {
     if !earlier_operands.is_empty() {
-        faults.try_push(AsmFault::PositionalAfter {
+        faults.push(AsmFault::PositionalAfter {
             operand,
             earlier_operands,
-        })?;
+        });
     }
     Ok(())
 }
@@ -106,7 +106,7 @@ fn add_unnamed<'a>(
 ) -> Result<(), AllocError> {
     let earlier_operands = others_of(operands)?;
     push_late(faults, index, earlier_operands)?;
-    operands.slots.try_push(Operand::Unnamed)?;
+    operands.slots.push(Operand::Unnamed);
     Ok(())
 }
 
@@ -121,16 +121,16 @@ fn add_named<'a>(
 ) -> Result<(), AllocError> {
     match index_of(&operands.names, name) {
         Some(first_operand) => {
-            faults.try_push(AsmFault::RepeatedName {
+            faults.push(AsmFault::RepeatedName {
                 operand: index,
                 first_operand,
-            })?;
-            operands.slots.try_push(Operand::Unnamed)?;
+            });
+            operands.slots.push(Operand::Unnamed);
         }
         None => {
             insert(&mut operands.names, name, index)?;
-            operands.named_operands.try_push(index)?;
-            operands.slots.try_push(Operand::Named(name))?;
+            operands.named_operands.push(index);
+            operands.slots.push(Operand::Named(name));
         }
     }
     Ok(())
@@ -145,10 +145,10 @@ fn add_register<'a>(
     has_name: bool,
 ) -> Result<(), AllocError> {
     if has_name {
-        faults.try_push(AsmFault::RegisterName { operand: index })?;
+        faults.push(AsmFault::RegisterName { operand: index });
     }
-    operands.registers.try_push(index)?;
-    operands.slots.try_push(Operand::Register { has_name })?;
+    operands.registers.push(index);
+    operands.slots.push(Operand::Register { has_name });
     Ok(())
 }
 

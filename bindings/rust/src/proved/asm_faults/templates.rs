@@ -26,7 +26,7 @@ pub struct Template<'a> {
 fn owned_string(text: Option<&str>) -> Result<Option<String>, AllocError> {
     match text {
         None => Ok(None),
-        Some(text) => Ok(Some(String::made_from(text)?)),
+        Some(text) => Ok(Some(String::from(text))),
     }
 }
 

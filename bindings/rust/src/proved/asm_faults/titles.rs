@@ -33,16 +33,16 @@ impl AsmFault<'_> {
 /// Adds a number in decimal digits.
 pub(crate) fn put_number(out: &mut String, number: usize) -> Result<(), AllocError> {
     let mut digits = Buffer::new();
-    out.try_push_str(digits.format(number))?;
+    out.push_str(digits.format(number));
     Ok(())
 }
 
 /// Adds a text and a name between backquotes.
 fn put_named(out: &mut String, text: &str, name: &str) -> Result<(), AllocError> {
-    out.try_push_str(text)?;
-    out.try_push_str("`")?;
-    out.try_push_str(name)?;
-    out.try_push_str("`")?;
+    out.push_str(text);
+    out.push_str("`");
+    out.push_str(name);
+    out.push_str("`");
     Ok(())
 }
 
@@ -83,14 +83,14 @@ fn unused_title(operands: &[Operand<'_>], unused_indices: &[usize]) -> &'static 
 /// Adds the title of a fault of a template.
 fn put_text_title(out: &mut String, fault: &Fault<'_>) -> Result<(), AllocError> {
     let error = fault.error()?;
-    out.try_push_str("invalid asm template string: ")?;
-    out.try_push_str(&error.description)?;
+    out.push_str("invalid asm template string: ");
+    out.push_str(&error.description);
     Ok(())
 }
 
 /// Adds the title of a wrong index.
 fn put_index_title(out: &mut String, index: usize) -> Result<(), AllocError> {
-    out.try_push_str("invalid reference to argument at index ")?;
+    out.push_str("invalid reference to argument at index ");
     put_number(out, index)?;
     Ok(())
 }
@@ -105,10 +105,10 @@ impl<'a> AsmCall<'a> {
     ) -> Result<(), AllocError> {
         match fault {
             AsmFault::PositionalAfter { .. } => {
-                out.try_push_str(
+                out.push_str(
                     "positional arguments cannot follow named arguments or explicit register \
                      arguments",
-                )?;
+                );
                 Ok(())
             }
             AsmFault::RepeatedName { first_operand, .. } => put_named(
@@ -117,7 +117,7 @@ impl<'a> AsmCall<'a> {
                 name_of(&self.operands, *first_operand),
             ),
             AsmFault::RegisterName { .. } => {
-                out.try_push_str("explicit register arguments cannot have names")?;
+                out.push_str("explicit register arguments cannot have names");
                 Ok(())
             }
             AsmFault::WrongIndex { index, .. } => put_index_title(out, *index),
@@ -126,12 +126,12 @@ impl<'a> AsmCall<'a> {
                 Ok(())
             }
             AsmFault::LongModifier { .. } => {
-                out.try_push_str("asm template modifier must be a single character")?;
+                out.push_str("asm template modifier must be a single character");
                 Ok(())
             }
             AsmFault::Text { fault, .. } => put_text_title(out, fault),
             AsmFault::UnusedOperands(unused_indices) => {
-                out.try_push_str(unused_title(&self.operands, unused_indices))?;
+                out.push_str(unused_title(&self.operands, unused_indices));
                 Ok(())
             }
         }

@@ -70,11 +70,11 @@ fn asm_range(site: AsmSite<'_, '_>, spot: AsmSpot) -> Range<usize> {
 fn labels(site: AsmSite<'_, '_>, labels: Vec<AsmLabel>) -> Result<Vec<Label>, AllocError> {
     let mut list = Vec::new();
     for label in labels {
-        list.try_push(Label {
+        list.push(Label {
             range: asm_range(site, label.spot),
             is_primary: label.is_primary,
             text: label.text,
-        })?;
+        });
     }
     Ok(list)
 }
@@ -83,7 +83,7 @@ fn labels(site: AsmSite<'_, '_>, labels: Vec<AsmLabel>) -> Result<Vec<Label>, Al
 fn ranges(site: AsmSite<'_, '_>, spot: Option<AsmSpot>) -> Result<Vec<Range<usize>>, AllocError> {
     let mut ranges = Vec::new();
     if let Some(spot) = spot {
-        ranges.try_push(asm_range(site, spot))?;
+        ranges.push(asm_range(site, spot));
     }
     Ok(ranges)
 }
@@ -94,10 +94,10 @@ fn notes(site: AsmSite<'_, '_>, notes: Vec<AsmNote>) -> Result<Vec<Note>, AllocE
     let mut list = Vec::new();
     for note in notes {
         let ranges = ranges(site, note.spot)?;
-        list.try_push(Note {
+        list.push(Note {
             text: note.text,
             ranges,
-        })?;
+        });
     }
     Ok(list)
 }
@@ -169,7 +169,7 @@ fn put_finding<'c>(
     is_whole: bool,
 ) -> Result<(), AllocError> {
     if is_whole || is_template_fault(fault) {
-        findings.try_push(finding(site, call, fault)?)?;
+        findings.push(finding(site, call, fault)?);
     }
     Ok(())
 }

@@ -61,8 +61,8 @@ fn add<'a>(
 ) -> Result<(), AllocError> {
     let kind = asm_part(part, argument);
     if let Some(operand) = operand_of(part.tokens(), argument, kind) {
-        all_operands.list.try_push(operand)?;
-        all_operands.arguments.try_push(*argument)?;
+        all_operands.list.push(operand);
+        all_operands.arguments.push(*argument);
     }
     all_operands.are_raw = all_operands.are_raw || matches!(kind, AsmPart::Raw);
     all_operands.is_unknown = all_operands.is_unknown || matches!(kind, AsmPart::Unknown);
@@ -119,7 +119,7 @@ fn read_templates<'a>(
     let mut templates = Vec::new();
     for argument in arguments {
         match read_template(tokens, argument)? {
-            Some(template) => templates.try_push(template)?,
+            Some(template) => templates.push(template),
             None => return Ok(None),
         }
     }
@@ -133,11 +133,11 @@ fn templates_of<'c>(
 ) -> Result<Vec<Template<'c>>, AllocError> {
     let mut templates = Vec::new();
     for template in template_list {
-        templates.try_push(Template {
+        templates.push(Template {
             text: template.literal.text.as_str(),
             style: template.literal.style,
             snippet: Some(template.literal.snippet.as_str()),
-        })?;
+        });
     }
     Ok(templates)
 }

@@ -90,7 +90,7 @@ fn front_at(source: &Source<'_>, start: usize) -> Result<Front, AllocError> {
     let mut starts = Vec::new();
     let mut end = start;
     while let Some(next_end) = after_front(source, end) {
-        starts.try_push(end)?;
+        starts.push(end);
         end = next_end;
     }
     Ok(Front { starts, end })
@@ -134,7 +134,7 @@ fn put_literal<'a>(
 ) -> Result<(), AllocError> {
     if let Some(literal) = literal_of(tokens, option) {
         if is_effective(tokens, has_message, has_label, option) {
-            literals.try_push(literal)?;
+            literals.push(literal);
         }
     }
     Ok(())

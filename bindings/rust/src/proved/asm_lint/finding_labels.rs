@@ -15,11 +15,11 @@ use core::ops::Range;
 pub fn labels(site: Site<'_, '_>, labels: Vec<CallLabel>) -> Result<Vec<Label>, AllocError> {
     let mut list = Vec::new();
     for label in labels {
-        list.try_push(Label {
+        list.push(Label {
             range: spot_range(site, label.spot),
             is_primary: label.is_primary,
             text: label.text,
-        })?;
+        });
     }
     Ok(list)
 }

@@ -36,13 +36,13 @@ fn is_dropped(c: char, rest: &str) -> bool {
 #[inline(never)]
 pub fn without_crs(text: &str) -> Result<String, AllocError> {
     if !text.contains('\r') {
-        return Ok(String::made_from(text)?);
+        return Ok(String::from(text));
     }
     let mut lines = String::new();
     let mut rest = text;
     while let Some((c, more)) = split_first(rest) {
         if !is_dropped(c, more) {
-            lines.try_push(c)?;
+            lines.push(c);
         }
         rest = more;
     }
@@ -57,7 +57,7 @@ pub fn appends_newline(name: &[u8]) -> bool {
 /// Appends a newline to a text, or nothing.
 fn put_newline(text: &mut String, appended: bool) -> Result<(), AllocError> {
     if appended {
-        text.try_push('\n')?;
+        text.push('\n');
         return Ok(());
     }
     Ok(())
@@ -91,7 +91,7 @@ pub fn dropped_crs(token: &str) -> Result<Vec<usize>, AllocError> {
     while let Some((c, more)) = split_first(rest) {
         if is_dropped(c, more) {
             let front_len = token.len().saturating_sub(rest.len());
-            offsets.try_push(front_len.saturating_sub(offsets.len()))?;
+            offsets.push(front_len.saturating_sub(offsets.len()));
         }
         rest = more;
     }

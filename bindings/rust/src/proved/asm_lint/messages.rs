@@ -44,7 +44,7 @@ fn put_findings(
     faults: &[MessageFault<'_>],
 ) -> Result<(), AllocError> {
     for fault in faults {
-        findings.try_push(finding(site, name, fault)?)?;
+        findings.push(finding(site, name, fault)?);
     }
     Ok(())
 }

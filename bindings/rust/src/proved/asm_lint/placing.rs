@@ -17,11 +17,11 @@ use core::ops::Range;
 fn labels(site: Site<'_, '_>, labels: Vec<Label<Spot>>) -> Result<Vec<FoundLabel>, AllocError> {
     let mut list = Vec::new();
     for label in labels {
-        list.try_push(FoundLabel {
+        list.push(FoundLabel {
             range: spot_range(site, label.place),
             is_primary: label.is_primary,
             text: label.text,
-        })?;
+        });
     }
     Ok(list)
 }
@@ -30,7 +30,7 @@ fn labels(site: Site<'_, '_>, labels: Vec<Label<Spot>>) -> Result<Vec<FoundLabel
 fn ranges(site: Site<'_, '_>, places: Vec<Spot>) -> Result<Vec<Range<usize>>, AllocError> {
     let mut list = Vec::new();
     for place in places {
-        list.try_push(spot_range(site, place))?;
+        list.push(spot_range(site, place));
     }
     Ok(list)
 }
@@ -50,10 +50,10 @@ fn notes(site: Site<'_, '_>, notes: Vec<Note<Spot>>) -> Result<FoundNotes, Alloc
         match note.level {
             NoteLevel::Note => {
                 let ranges = ranges(site, note.places)?;
-                list.try_push(FoundNote {
+                list.push(FoundNote {
                     text: note.text,
                     ranges,
-                })?;
+                });
             }
             NoteLevel::Help => {
                 help = Some(Help {

@@ -57,7 +57,7 @@ pub(crate) fn insert<'a>(
     name: &'a str,
     index: usize,
 ) -> Result<(), AllocError> {
-    indices.insert_in(name, index)?;
+    indices.insert(name, index);
     Ok(())
 }
 
@@ -81,7 +81,7 @@ fn keep<'a>(
         insert(&mut arguments.indices, name, index)?;
         arguments.has_names = true;
     }
-    arguments.list.try_push(Entry { index, argument })?;
+    arguments.list.push(Entry { index, argument });
     Ok(())
 }
 
@@ -94,7 +94,7 @@ fn add<'a>(
     argument: FormatArgument<'a>,
 ) -> Result<(), AllocError> {
     match first_of(arguments, &argument) {
-        Some(first_index) => faults.try_push(CallFault::RepeatedName { index, first_index })?,
+        Some(first_index) => faults.push(CallFault::RepeatedName { index, first_index }),
         None => keep(arguments, index, argument)?,
     }
     Ok(())
@@ -112,7 +112,7 @@ fn named_of(list: &[Entry<'_>]) -> Result<Vec<usize>, AllocError> {
     let mut named_arguments = Vec::new();
     for entry in list {
         if entry.argument.name.is_some() {
-            named_arguments.try_push(entry.index)?;
+            named_arguments.push(entry.index);
         }
     }
     Ok(named_arguments)
@@ -129,10 +129,10 @@ pub(crate) fn arguments_of<'a>(
     for (index, argument) in call_arguments.iter().enumerate() {
         if is_late(&arguments, argument) {
             let named_arguments = named_of(&arguments.list)?;
-            faults.try_push(CallFault::PositionalAfterNamed {
+            faults.push(CallFault::PositionalAfterNamed {
                 index,
                 named_arguments,
-            })?;
+            });
             return Ok(None);
         }
         add(&mut arguments, faults, index, *argument)?;

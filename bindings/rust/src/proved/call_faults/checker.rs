@@ -51,7 +51,7 @@ pub struct CallReport<'a> {
 fn owned_string(text: Option<&str>) -> Result<Option<String>, AllocError> {
     match text {
         None => Ok(None),
-        Some(text) => Ok(Some(String::made_from(text)?)),
+        Some(text) => Ok(Some(String::from(text))),
     }
 }
 
@@ -86,7 +86,7 @@ fn faults_of<'a>(
     *indices = indices_of(&arguments.list)?;
     if !is_read {
         if let Some(fault) = fault_of(string)? {
-            faults.try_push(CallFault::Text(fault))?;
+            faults.push(CallFault::Text(fault));
         }
         return Ok(faults);
     }

@@ -27,7 +27,7 @@ fn marks<'a>(
     count: usize,
     lookups: &[Lookup<'a>],
 ) -> Result<Vec<bool>, AllocError> {
-    let mut marks = crate::shim::try_vec![false; count]?;
+    let mut marks = ::alloc::vec![false; count];
     for lookup in lookups {
         if let Some(index) = meant(arguments, lookup) {
             if index < marks.len() {
@@ -58,7 +58,7 @@ fn references_from(
     let mut references = Vec::new();
     for lookup in lookups {
         if let Some(reference) = reference_beyond(count, lookup) {
-            references.try_push(reference)?;
+            references.push(reference);
         }
     }
     Ok(references)
@@ -73,7 +73,7 @@ fn unmarked_arguments<'a>(
     let mut list = Vec::new();
     for entry in arguments {
         if !matches!(marks.get(entry.index), Some(true)) {
-            list.try_push(*entry)?;
+            list.push(*entry);
         }
     }
     Ok(list)
@@ -89,11 +89,11 @@ fn look_up_one<'a>(
     lookup: &Lookup<'a>,
 ) -> Result<(), AllocError> {
     match *lookup {
-        Lookup::NoTrait(piece, ty) => faults.try_push(CallFault::UnknownTrait { piece, ty })?,
+        Lookup::NoTrait(piece, ty) => faults.push(CallFault::UnknownTrait { piece, ty }),
         Lookup::Refer(reference, ArgRef::Name(name)) => {
             if !captures_variables && index_of(indices, name).is_none() {
                 insert(indices, name, 0)?;
-                faults.try_push(CallFault::MissingName { reference, name })?;
+                faults.push(CallFault::MissingName { reference, name });
             }
         }
         Lookup::Refer(_, ArgRef::Index(_)) => {}
@@ -160,7 +160,7 @@ fn redundant_of<'a>(
     let positions = positions_of(lookups)?;
     for entry in unused_entries {
         if is_redundant(&positions, entry) {
-            redundant_indices.try_push(entry.index)?;
+            redundant_indices.push(entry.index);
         }
     }
     Ok(redundant_indices)
@@ -170,7 +170,7 @@ fn redundant_of<'a>(
 pub(crate) fn indices_of(arguments: &[Entry<'_>]) -> Result<Vec<usize>, AllocError> {
     let mut indices = Vec::new();
     for entry in arguments {
-        indices.try_push(entry.index)?;
+        indices.push(entry.index);
     }
     Ok(indices)
 }
@@ -184,12 +184,12 @@ fn push_unused_faults<'a>(
 ) -> Result<(), AllocError> {
     let redundant_indices = redundant_of(unused_entries, lookups)?;
     if !redundant_indices.is_empty() {
-        faults.try_push(CallFault::RedundantArguments(redundant_indices))?;
+        faults.push(CallFault::RedundantArguments(redundant_indices));
         return Ok(());
     }
     let unused_indices = indices_of(unused_entries)?;
     if !unused_indices.is_empty() {
-        faults.try_push(CallFault::UnusedArguments(unused_indices))?;
+        faults.push(CallFault::UnusedArguments(unused_indices));
     }
     Ok(())
 }
@@ -217,7 +217,7 @@ fn push_index_faults<'a>(
 ) -> Result<(), AllocError> {
     for lookup in lookups {
         if let Some(fault) = by_index(arguments, lookup) {
-            faults.try_push(fault)?;
+            faults.push(fault);
         }
     }
     Ok(())
@@ -229,7 +229,7 @@ fn push_missing_fault(
     references: Vec<InvalidReference>,
 ) -> Result<(), AllocError> {
     if !references.is_empty() {
-        faults.try_push(CallFault::MissingArguments(references))?;
+        faults.push(CallFault::MissingArguments(references));
     }
     Ok(())
 }
@@ -264,7 +264,7 @@ pub(crate) fn compare<'a>(
         lookups,
     )?;
     let is_settled = is_settled(&list, &references, &rest);
-    faults.try_append(&mut list)?;
+    faults.append(&mut list);
     push_missing_fault(faults, references)?;
     push_unused_faults(faults, &rest, lookups)?;
     if !is_settled {

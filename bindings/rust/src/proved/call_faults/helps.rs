@@ -31,7 +31,7 @@ fn plain_edit(spot: Spot, text: String) -> CallEdit {
 /// Returns a help with one edit.
 fn single(text: String, spot: Spot, new: String) -> Result<CallHelp, AllocError> {
     let mut edits = Vec::new();
-    edits.try_push(plain_edit(spot, new))?;
+    edits.push(plain_edit(spot, new));
     Ok(CallHelp { text, edits })
 }
 
@@ -39,7 +39,7 @@ fn single(text: String, spot: Spot, new: String) -> Result<CallHelp, AllocError>
 fn put_placeholders(out: &mut String, count: usize) -> Result<(), AllocError> {
     let mut countdown = count;
     while countdown > 0 {
-        out.try_push_str("{}")?;
+        out.push_str("{}");
         countdown -= 1;
     }
     Ok(())
@@ -52,7 +52,7 @@ fn unused_help(call: &CallReport<'_>, count: usize) -> Result<Option<CallHelp>, 
         return Ok(None);
     }
     let message = "format specifiers use curly braces, consider adding ";
-    let mut text = String::made_from(message)?;
+    let mut text = String::from(message);
     put_specifiers(&mut text, count)?;
     let mut new = String::new();
     put_placeholders(&mut new, count)?;
@@ -80,7 +80,7 @@ fn push_removals(
     while let Some((index, others)) = rest.split_first() {
         let text = String::new();
         let spot = removed_spot(arguments, *index);
-        edits.try_push(plain_edit(spot, text))?;
+        edits.push(plain_edit(spot, text));
         rest = others;
     }
     Ok(())
@@ -97,7 +97,7 @@ fn redundant_help(
     }
     let mut edits = Vec::new();
     push_removals(&mut edits, arguments, redundant_indices)?;
-    let text = String::made_from("this can be removed")?;
+    let text = String::from("this can be removed");
     Ok(Some(CallHelp { text, edits }))
 }
 
@@ -111,8 +111,8 @@ fn after_name(part: Part) -> &'static str {
 
 /// Returns the name of an argument as a part of a placeholder has it.
 fn name_in(part: Part, name: &str) -> Result<String, AllocError> {
-    let mut text = String::made_from(name)?;
-    text.try_push_str(after_name(part))?;
+    let mut text = String::from(name);
+    text.push_str(after_name(part));
     Ok(text)
 }
 
@@ -124,7 +124,7 @@ fn by_index_help(
     index: usize,
 ) -> Result<CallHelp, AllocError> {
     let message = "use the named argument by name to avoid ambiguity";
-    let text = String::made_from(message)?;
+    let text = String::from(message);
     let new = name_in(reference.part, name_of(call.arguments, index))?;
     let spot = index_spot(&call.pieces, reference);
     single(text, spot, new)
@@ -133,10 +133,10 @@ fn by_index_help(
 /// Returns the help that replaces a text.
 #[inline(never)]
 fn replacement_help(spot: Spot, new: &str) -> Result<CallHelp, AllocError> {
-    let mut text = String::made_from("did you mean `")?;
-    text.try_push_str(new)?;
-    text.try_push_str("`?")?;
-    let new = String::made_from(new)?;
+    let mut text = String::from("did you mean `");
+    text.push_str(new);
+    text.push_str("`?");
+    let new = String::from(new);
     single(text, spot, new)
 }
 
@@ -169,17 +169,17 @@ fn positional_help(
     let spot = bytes_at(span);
     let mut index = String::new();
     put_number(&mut index, count)?;
-    let comma = String::made_from(", ")?;
+    let comma = String::from(", ");
     let mut edits = Vec::new();
-    edits.try_push(plain_edit(spot, index))?;
-    edits.try_push(CallEdit {
+    edits.push(plain_edit(spot, index));
+    edits.push(CallEdit {
         spot: added_spot(count),
         text: comma,
         copied_spot: Some(spot),
         rest: "",
-    })?;
+    });
     let message = "consider using a positional formatting argument instead";
-    let text = String::made_from(message)?;
+    let text = String::from(message);
     Ok(CallHelp { text, edits })
 }
 
@@ -189,15 +189,15 @@ fn debug_help(indices: &[usize]) -> Result<Option<CallHelp>, AllocError> {
     let [index] = indices else {
         return Ok(None);
     };
-    let text = String::made_from("use rust debug printing macro")?;
-    let opening = String::made_from("dbg!(")?;
+    let text = String::from("use rust debug printing macro");
+    let opening = String::from("dbg!(");
     let mut edits = Vec::new();
-    edits.try_push(CallEdit {
+    edits.push(CallEdit {
         spot: Spot::Call,
         text: opening,
         copied_spot: Some(Spot::Value(*index)),
         rest: ")",
-    })?;
+    });
     Ok(Some(CallHelp { text, edits }))
 }
 

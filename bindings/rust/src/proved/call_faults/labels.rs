@@ -84,8 +84,8 @@ fn push_second(labels: &mut Vec<CallLabel>, error: &ParseError) -> Result<(), Al
 #[inline(never)]
 fn push_text(labels: &mut Vec<CallLabel>, fault: &Fault<'_>) -> Result<(), AllocError> {
     let error = fault.error()?;
-    let mut text = String::made_from(&error.label)?;
-    text.try_push_str(" in format string")?;
+    let mut text = String::from(&error.label);
+    text.push_str(" in format string");
     push_primary(labels, bytes_at(&error.span), &text)?;
     push_second(labels, &error)?;
     Ok(())

@@ -44,10 +44,10 @@ fn push_count<'a>(
 ) -> Result<(), AllocError> {
     match count {
         Count::CountIsParam(n) | Count::CountIsStar(n) => {
-            list.try_push(Lookup::Refer(reference, ArgRef::Index(*n)))?;
+            list.push(Lookup::Refer(reference, ArgRef::Index(*n)));
         }
         Count::CountIsName(name, _) => {
-            list.try_push(Lookup::Refer(reference, ArgRef::Name(name)))?;
+            list.push(Lookup::Refer(reference, ArgRef::Name(name)));
         }
         Count::CountIs(_) | Count::CountImplied => {}
     }
@@ -77,13 +77,13 @@ fn push_argument<'a>(
     argument: &Argument<'a>,
 ) -> Result<(), AllocError> {
     let part = Part::Position;
-    list.try_push(Lookup::Refer(
+    list.push(Lookup::Refer(
         Reference { piece, part },
         arg_ref_of(&argument.position),
-    ))?;
+    ));
     let ty = argument.format.ty;
     if !is_known(ty) {
-        list.try_push(Lookup::NoTrait(piece, ty))?;
+        list.push(Lookup::NoTrait(piece, ty));
     }
     let part = Part::Precision;
     push_count(list, Reference { piece, part }, &argument.format.precision)?;

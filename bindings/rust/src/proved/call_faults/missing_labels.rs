@@ -94,12 +94,12 @@ fn push_values(labels: &mut Vec<CallLabel>, indices: &[usize]) -> Result<(), All
 #[inline(never)]
 fn put_expected(out: &mut String, count: usize) -> Result<(), AllocError> {
     if count == 1 {
-        out.try_push_str("is 1 argument")?;
+        out.push_str("is 1 argument");
         return Ok(());
     }
-    out.try_push_str("are ")?;
+    out.push_str("are ");
     put_number(out, count)?;
-    out.try_push_str(" arguments")?;
+    out.push_str(" arguments");
     Ok(())
 }
 
@@ -107,11 +107,11 @@ fn put_expected(out: &mut String, count: usize) -> Result<(), AllocError> {
 /// placeholders take `total` in all.
 #[inline(never)]
 fn put_star(out: &mut String, index: usize, total: usize) -> Result<(), AllocError> {
-    out.try_push_str("this precision flag adds an extra required argument at position ")?;
+    out.push_str("this precision flag adds an extra required argument at position ");
     put_number(out, index)?;
-    out.try_push_str(", which is why there ")?;
+    out.push_str(", which is why there ");
     put_expected(out, total)?;
-    out.try_push_str(" expected")?;
+    out.push_str(" expected");
     Ok(())
 }
 
@@ -130,11 +130,11 @@ fn push_star(
     };
     let mut text = String::new();
     put_star(&mut text, index, total)?;
-    labels.try_push(CallLabel {
+    labels.push(CallLabel {
         spot: spot_of(&argument.format.precision_span),
         is_primary: !is_next(&argument.position),
         text,
-    })?;
+    });
     Ok(())
 }
 

@@ -18,9 +18,9 @@ use alloc::collections::BTreeMap;
 
 /// Adds a note that shows no place.
 fn push_plain(notes: &mut Vec<CallNote>, text: &str) -> Result<(), AllocError> {
-    let text = String::made_from(text)?;
+    let text = String::from(text);
     let spots = Vec::new();
-    notes.try_push(CallNote { text, spots })?;
+    notes.push(CallNote { text, spots });
     Ok(())
 }
 
@@ -173,11 +173,11 @@ pub(crate) fn are_missing(faults: &[CallFault<'_>]) -> bool {
 #[inline(never)]
 pub(crate) fn put_specifiers(out: &mut String, count: usize) -> Result<(), AllocError> {
     if count == 1 {
-        out.try_push_str("a format specifier")?;
+        out.push_str("a format specifier");
         return Ok(());
     }
     put_number(out, count)?;
-    out.try_push_str(" format specifiers")?;
+    out.push_str(" format specifiers");
     Ok(())
 }
 
@@ -191,7 +191,7 @@ fn push_unused(
     if are_missing(&call.faults) || count == call.indices.len() || count <= 1 {
         return Ok(());
     }
-    let mut text = String::made_from("consider adding ")?;
+    let mut text = String::from("consider adding ");
     put_specifiers(&mut text, count)?;
     push_plain(notes, &text)?;
     Ok(())
@@ -237,7 +237,7 @@ fn push_position<'a>(
 ) -> Result<(), AllocError> {
     if let Piece::NextArgument(argument) = piece {
         if is_name(names, &argument.position) {
-            spots.try_push(bytes_at(&argument.position_span))?;
+            spots.push(bytes_at(&argument.position_span));
         }
     }
     Ok(())
@@ -274,8 +274,8 @@ fn push_redundant<'a>(
 ) -> Result<(), AllocError> {
     let names = variables_of(call.arguments, redundant_indices)?;
     let spots = named_positions(&names, &call.pieces)?;
-    let text = String::made_from(redundant_text(redundant_indices.len()))?;
-    notes.try_push(CallNote { text, spots })?;
+    let text = String::from(redundant_text(redundant_indices.len()));
+    notes.push(CallNote { text, spots });
     Ok(())
 }
 

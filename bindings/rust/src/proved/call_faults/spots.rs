@@ -49,12 +49,12 @@ pub(crate) fn push_primary(
     spot: Spot,
     text: &str,
 ) -> Result<(), AllocError> {
-    let text = String::made_from(text)?;
-    labels.try_push(CallLabel {
+    let text = String::from(text);
+    labels.push(CallLabel {
         spot,
         is_primary: true,
         text,
-    })?;
+    });
     Ok(())
 }
 
@@ -71,12 +71,12 @@ pub(crate) fn push_secondary(
     spot: Spot,
     text: &str,
 ) -> Result<(), AllocError> {
-    let text = String::made_from(text)?;
-    labels.try_push(CallLabel {
+    let text = String::from(text);
+    labels.push(CallLabel {
         spot,
         is_primary: false,
         text,
-    })?;
+    });
     Ok(())
 }
 
@@ -184,10 +184,10 @@ fn count_with(count: usize, piece: &Piece<'_>) -> usize {
 /// Returns of each of these pieces how many placeholders stand before it.
 #[inline(never)]
 pub(crate) fn counts_before(pieces: &[Piece<'_>]) -> Result<Vec<usize>, AllocError> {
-    let mut counts = Vec::made_for(pieces.len())?;
+    let mut counts = Vec::with_capacity(pieces.len());
     let mut count = 0;
     for piece in pieces {
-        counts.try_push(count)?;
+        counts.push(count);
         count = count_with(count, piece);
     }
     Ok(counts)

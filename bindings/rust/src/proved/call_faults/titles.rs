@@ -35,7 +35,7 @@ impl CallFault<'_> {
 /// Adds a number in decimal digits.
 pub(crate) fn put_number(out: &mut String, number: usize) -> Result<(), AllocError> {
     let mut digits = Buffer::new();
-    out.try_push_str(digits.format(number))?;
+    out.push_str(digits.format(number));
     Ok(())
 }
 
@@ -43,24 +43,24 @@ pub(crate) fn put_number(out: &mut String, number: usize) -> Result<(), AllocErr
 #[inline(never)]
 fn put_count(out: &mut String, count: usize) -> Result<(), AllocError> {
     if count == 0 {
-        out.try_push_str("no arguments were given")?;
+        out.push_str("no arguments were given");
         return Ok(());
     }
     if count == 1 {
-        out.try_push_str("there is 1 argument")?;
+        out.push_str("there is 1 argument");
         return Ok(());
     }
-    out.try_push_str("there are ")?;
+    out.push_str("there are ");
     put_number(out, count)?;
-    out.try_push_str(" arguments")?;
+    out.push_str(" arguments");
     Ok(())
 }
 
 /// Adds a noun, in the plural unless there is one.
 pub(crate) fn put_noun(out: &mut String, noun: &str, count: usize) -> Result<(), AllocError> {
-    out.try_push_str(noun)?;
+    out.push_str(noun);
     if count != 1 {
-        out.try_push('s')?;
+        out.push('s');
     }
     Ok(())
 }
@@ -69,8 +69,8 @@ pub(crate) fn put_noun(out: &mut String, noun: &str, count: usize) -> Result<(),
 fn put_separator(out: &mut String, others: &[usize]) -> Result<(), AllocError> {
     match others {
         [] => {}
-        [_] => out.try_push_str(" and ")?,
-        _ => out.try_push_str(", ")?,
+        [_] => out.push_str(" and "),
+        _ => out.push_str(", "),
     }
     Ok(())
 }
@@ -89,15 +89,15 @@ fn put_numbers(out: &mut String, numbers: &[usize]) -> Result<(), AllocError> {
 
 /// Adds a name between backquotes.
 fn put_quoted(out: &mut String, name: &str) -> Result<(), AllocError> {
-    out.try_push('`')?;
-    out.try_push_str(name)?;
-    out.try_push('`')?;
+    out.push('`');
+    out.push_str(name);
+    out.push('`');
     Ok(())
 }
 
 /// Adds a text and a name between backquotes.
 fn put_named(out: &mut String, text: &str, name: &str) -> Result<(), AllocError> {
-    out.try_push_str(text)?;
+    out.push_str(text);
     put_quoted(out, name)?;
     Ok(())
 }
@@ -110,7 +110,7 @@ pub(crate) fn put_name_between(
     suffix: &str,
 ) -> Result<(), AllocError> {
     put_named(out, prefix, name)?;
-    out.try_push_str(suffix)?;
+    out.push_str(suffix);
     Ok(())
 }
 
@@ -153,22 +153,21 @@ pub(crate) fn have_numbers(pieces: &[Piece<'_>]) -> bool {
 /// Adds the title of numbers that are too large, where `count` arguments are given.
 #[inline(never)]
 fn put_numbers_title(out: &mut String, numbers: &[usize], count: usize) -> Result<(), AllocError> {
-    out.try_push_str("invalid reference to positional ")?;
+    out.push_str("invalid reference to positional ");
     put_noun(out, "argument", numbers.len())?;
-    out.try_push(' ')?;
+    out.push(' ');
     put_numbers(out, numbers)?;
-    out.try_push_str(" (")?;
+    out.push_str(" (");
     put_count(out, count)?;
-    out.try_push(')')?;
+    out.push(')');
     Ok(())
 }
 
 /// Adds the title of too few arguments, where `count` are given and the placeholders take `total`.
-#[inline(never)]
 fn put_few_title(out: &mut String, total: usize, count: usize) -> Result<(), AllocError> {
     put_number(out, total)?;
     put_noun(out, " positional argument", total)?;
-    out.try_push_str(" in format string, but ")?;
+    out.push_str(" in format string, but ");
     put_count(out, count)?;
     Ok(())
 }
@@ -213,8 +212,8 @@ fn unused_title(arguments: &[FormatArgument<'_>], unused_indices: &[usize]) -> &
 /// Adds the title of a fault of the format string.
 fn put_text_title(out: &mut String, fault: &Fault<'_>) -> Result<(), AllocError> {
     let error = fault.error()?;
-    out.try_push_str("invalid format string: ")?;
-    out.try_push_str(&error.description)?;
+    out.push_str("invalid format string: ");
+    out.push_str(&error.description);
     Ok(())
 }
 
@@ -241,7 +240,7 @@ impl<'a> CallReport<'a> {
     ) -> Result<(), AllocError> {
         match fault {
             CallFault::PositionalAfterNamed { .. } => {
-                out.try_push_str("positional arguments cannot follow named arguments")?;
+                out.push_str("positional arguments cannot follow named arguments");
                 Ok(())
             }
             CallFault::RepeatedName { index, .. } => put_named(
@@ -263,7 +262,7 @@ impl<'a> CallReport<'a> {
                 Ok(())
             }
             CallFault::UnusedArguments(unused_indices) => {
-                out.try_push_str(unused_title(self.arguments, unused_indices))?;
+                out.push_str(unused_title(self.arguments, unused_indices));
                 Ok(())
             }
             CallFault::RedundantArguments(redundant_indices) => {

@@ -100,7 +100,7 @@ fn put_parameter<'a>(
     token: &Token<'a>,
 ) -> Result<(), AllocError> {
     if names(place, token) {
-        list.try_push(token.text)?;
+        list.push(token.text);
     }
     Ok(())
 }

@@ -10,12 +10,12 @@ use crate::shim::prelude::*;
 
 /// Adds a label of a place that the fault is about.
 pub fn push_primary<P>(labels: &mut Vec<Label<P>>, place: P, text: &str) -> Result<(), AllocError> {
-    let text = String::made_from(text)?;
-    labels.try_push(Label {
+    let text = String::from(text);
+    labels.push(Label {
         place,
         is_primary: true,
         text,
-    })?;
+    });
     Ok(())
 }
 
@@ -25,23 +25,23 @@ pub fn push_secondary<P>(
     place: P,
     text: &str,
 ) -> Result<(), AllocError> {
-    let text = String::made_from(text)?;
-    labels.try_push(Label {
+    let text = String::from(text);
+    labels.push(Label {
         place,
         is_primary: false,
         text,
-    })?;
+    });
     Ok(())
 }
 
 /// Adds a help without edits and without places.
 #[inline(never)]
 pub fn push_help<P>(notes: &mut Vec<Note<P>>, text: &str) -> Result<(), AllocError> {
-    let text = String::made_from(text)?;
-    notes.try_push(Note {
+    let text = String::from(text);
+    notes.push(Note {
         level: NoteLevel::Help,
         text,
         places: Vec::new(),
-    })?;
+    });
     Ok(())
 }

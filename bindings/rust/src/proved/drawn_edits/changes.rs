@@ -222,7 +222,7 @@ fn put_plus_signs(
 fn put_plus_row(out: &mut String, gutter: Gutter, parts: &[Part<'_>]) -> Result<(), AllocError> {
     put_gutter(out, gutter)?;
     put_plus_signs(out, gutter.palette, parts)?;
-    out.try_push_str("\n")?;
+    out.push_str("\n");
     Ok(())
 }
 

@@ -49,7 +49,7 @@ fn put_parts(
     if has_colours(palette) {
         return Ok(put_coloured_parts(out, palette, style, sign, parts)?);
     }
-    out.try_push_str(sign)?;
+    out.push_str(sign);
     put_plain_parts(out, parts)?;
     Ok(())
 }
@@ -65,9 +65,9 @@ pub fn put_sign_row(
     parts: &[Part<'_>],
 ) -> Result<(), AllocError> {
     put_line_number(out, frame, number)?;
-    out.try_push_str(" ")?;
+    out.push_str(" ");
     put_parts(out, frame.gutter.palette, style, sign, parts)?;
-    out.try_push_str("\n")?;
+    out.push_str("\n");
     Ok(())
 }
 
@@ -100,7 +100,7 @@ fn draw_nothing(parts: &[Part<'_>]) -> bool {
 /// Adds the text after the bar of a line.
 fn put_spaced_text(out: &mut String, parts: &[Part<'_>]) -> Result<(), AllocError> {
     if !draw_nothing(parts) {
-        out.try_push_str(" ")?;
+        out.push_str(" ");
         put_plain_parts(out, parts)?;
     }
     Ok(())
@@ -115,7 +115,7 @@ pub fn put_kept_row(
 ) -> Result<(), AllocError> {
     put_number_bar(out, frame, number)?;
     put_spaced_text(out, parts)?;
-    out.try_push_str("\n")?;
+    out.push_str("\n");
     Ok(())
 }
 
@@ -146,7 +146,7 @@ fn put_kept_ends(
     put_kept_rows(out, frame, n, first)?;
     put_run(out, ' ', frame.gutter.columns.saturating_sub(3))?;
     put_painted_text(out, frame.gutter.palette, Style::Secondary, "...")?;
-    out.try_push_str("\n")?;
+    out.push_str("\n");
     put_kept_rows(out, frame, m, last)?;
     Ok(())
 }

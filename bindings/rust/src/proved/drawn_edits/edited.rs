@@ -83,39 +83,38 @@ pub fn parts_of<'a>(
         let to = edit.end.max(from);
         let (front_text, rest_after) = split_within(rest, from - at);
         let (removed_text, rest_after) = split_within(rest_after, to - from);
-        list.try_push(Part {
+        list.push(Part {
             style: Style::Plain,
             text: front_text,
-        })?;
-        list.try_push(Part {
+        });
+        list.push(Part {
             style: Style::Removal,
             text: removed_text,
-        })?;
-        list.try_push(Part {
+        });
+        list.push(Part {
             style: Style::Addition,
             text: edit.text,
-        })?;
+        });
         rest = rest_after;
         at = to;
     }
     let (line, _) = split_line(rest);
-    list.try_push(Part {
+    list.push(Part {
         style: Style::Plain,
         text: line,
-    })?;
+    });
     Ok(list)
 }
 
 /// Adds a part of a line, and ends the line.
-#[inline(never)]
 fn end_line<'a>(
     lines: &mut Vec<Line<'a>>,
     row: &mut Vec<Part<'a>>,
     part: Part<'a>,
 ) -> Result<(), AllocError> {
-    row.try_push(part)?;
+    row.push(part);
     let parts = mem::replace(row, Vec::new());
-    lines.try_push(Line { parts })?;
+    lines.push(Line { parts });
     Ok(())
 }
 
@@ -138,7 +137,7 @@ fn push_text<'a>(
         end_line(lines, row, Part { style, text: line })?;
         rest = rest_after;
     }
-    row.try_push(Part { style, text: rest })?;
+    row.push(Part { style, text: rest });
     Ok(())
 }
 
@@ -203,7 +202,7 @@ pub fn new_lines<'a>(parts: &[Part<'a>]) -> Result<Vec<Line<'a>>, AllocError> {
     let mut lines = Vec::new();
     let mut row = Vec::new();
     push_new_part(&mut lines, &mut row, parts)?;
-    lines.try_push(Line { parts: row })?;
+    lines.push(Line { parts: row });
     let count = count_to_text(&lines);
     lines.truncate(count);
     Ok(lines)
@@ -215,7 +214,7 @@ pub fn old_lines<'a>(parts: &[Part<'a>]) -> Result<Vec<Line<'a>>, AllocError> {
     let mut lines = Vec::new();
     let mut row = Vec::new();
     push_parts(&mut lines, &mut row, Style::Addition, parts)?;
-    lines.try_push(Line { parts: row })?;
+    lines.push(Line { parts: row });
     Ok(lines)
 }
 
@@ -259,7 +258,7 @@ pub fn do_remove(parts: &[Part<'_>]) -> bool {
 /// Adds the text of parts.
 fn put_text(out: &mut String, parts: &[Part<'_>]) -> Result<(), AllocError> {
     for part in parts {
-        out.try_push_str(part.text)?;
+        out.push_str(part.text);
     }
     Ok(())
 }

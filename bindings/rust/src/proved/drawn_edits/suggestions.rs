@@ -13,7 +13,7 @@ use crate::shim::prelude::*;
 /// Adds the word that a help begins with.
 pub fn put_help_word(out: &mut String, palette: Palette) -> Result<(), AllocError> {
     put_painted_text(out, palette, Style::Help, "help")?;
-    out.try_push_str(": ")?;
+    out.push_str(": ");
     Ok(())
 }
 

@@ -68,7 +68,7 @@ fn labels_of<'a>(
 ) -> Result<Vec<Label<'a>>, AllocError> {
     let mut list = Vec::new();
     for label in labels {
-        list.try_push(label_of(picture, label))?;
+        list.push(label_of(picture, label));
     }
     Ok(list)
 }
@@ -138,7 +138,7 @@ fn put_drawn_diagnostic(
     put_parting_above(out, frame, diagnostic)?;
     put_notes(out, frame.picture, frame.gutter, diagnostic.notes)?;
     put_helps(out, frame, diagnostic.helps)?;
-    out.try_push_str("\n")?;
+    out.push_str("\n");
     Ok(())
 }
 
@@ -152,7 +152,7 @@ fn put_diagnostic(
     picture: &Picture<'_>,
     diagnostic: &Diagnostic<'_>,
 ) -> Result<(), AllocError> {
-    out.try_reserve_more(diagnostic.title.len().saturating_add(ROOM))?;
+    out.reserve(diagnostic.title.len().saturating_add(ROOM));
     let labels = labels_of(picture, diagnostic.labels)?;
     let gutter = gutter_of(picture, diagnostic, &labels)?;
     let frame = frame_of(picture, gutter, &labels);

@@ -27,21 +27,21 @@ fn text_name(mode: ParseMode) -> &'static str {
 /// Returns the title of an error.
 #[inline(never)]
 fn title(mode: ParseMode, description: &str) -> Result<String, AllocError> {
-    let mut title = String::made_for(description.len().saturating_add(ROOM))?;
-    title.try_push_str("invalid ")?;
-    title.try_push_str(text_name(mode))?;
-    title.try_push_str(": ")?;
-    title.try_push_str(description)?;
+    let mut title = String::with_capacity(description.len().saturating_add(ROOM));
+    title.push_str("invalid ");
+    title.push_str(text_name(mode));
+    title.push_str(": ");
+    title.push_str(description);
     Ok(title)
 }
 
 /// Returns the text of the label of an error.
 #[inline(never)]
 fn label_text(mode: ParseMode, label: &str) -> Result<String, AllocError> {
-    let mut text = String::made_for(label.len().saturating_add(ROOM))?;
-    text.try_push_str(label)?;
-    text.try_push_str(" in ")?;
-    text.try_push_str(text_name(mode))?;
+    let mut text = String::with_capacity(label.len().saturating_add(ROOM));
+    text.push_str(label);
+    text.push_str(" in ");
+    text.push_str(text_name(mode));
     Ok(text)
 }
 
@@ -71,17 +71,17 @@ fn labels_of<'a>(
     text: &'a str,
 ) -> Result<Vec<SourceLabel<'a>>, AllocError> {
     let mut labels = Vec::new();
-    labels.try_push(SourceLabel {
+    labels.push(SourceLabel {
         span: error.span.start..error.span.end,
         is_primary: true,
         text,
-    })?;
+    });
     if let Some((text, span)) = second_text(mode, error) {
-        labels.try_push(SourceLabel {
+        labels.push(SourceLabel {
             span: span.start..span.end,
             is_primary: span.start == error.span.start && span.end == error.span.end,
             text,
-        })?;
+        });
     }
     Ok(labels)
 }
@@ -91,10 +91,10 @@ fn labels_of<'a>(
 fn notes_of(note: &Option<String>) -> Result<Vec<SourceNote<'_>>, AllocError> {
     let mut notes = Vec::new();
     if let Some(text) = note {
-        notes.try_push(SourceNote {
+        notes.push(SourceNote {
             text: text.as_str(),
             spans: &[],
-        })?;
+        });
     }
     Ok(notes)
 }
@@ -107,10 +107,10 @@ fn edits_of(mode: ParseMode, suggestion: &Suggestion) -> Result<Vec<Edit<'_>>, A
         return Ok(edits);
     }
     if let Suggestion::ReorderFormatParameter(span, text) = suggestion {
-        edits.try_push(Edit {
+        edits.push(Edit {
             span: span.start..span.end,
             text: text.as_str(),
-        })?;
+        });
     }
     Ok(edits)
 }
@@ -120,9 +120,9 @@ fn edits_of(mode: ParseMode, suggestion: &Suggestion) -> Result<Vec<Edit<'_>>, A
 fn advice(edits: &[Edit<'_>]) -> Result<String, AllocError> {
     let mut advice = String::new();
     if let [edit, ..] = edits {
-        advice.try_push_str("did you mean `")?;
-        advice.try_push_str(edit.text)?;
-        advice.try_push_str("`?")?;
+        advice.push_str("did you mean `");
+        advice.push_str(edit.text);
+        advice.push_str("`?");
     }
     Ok(advice)
 }
@@ -131,7 +131,7 @@ fn advice(edits: &[Edit<'_>]) -> Result<String, AllocError> {
 fn helps_of<'a>(text: &'a str, edits: &'a [Edit<'a>]) -> Result<Vec<SourceHelp<'a>>, AllocError> {
     let mut helps = Vec::new();
     if !edits.is_empty() {
-        helps.try_push(SourceHelp { text, edits })?;
+        helps.push(SourceHelp { text, edits });
     }
     Ok(helps)
 }

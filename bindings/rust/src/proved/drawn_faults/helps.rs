@@ -30,7 +30,7 @@ fn placed_edits<'a>(
 ) -> Result<Vec<Edit<'a>>, AllocError> {
     let mut list = Vec::new();
     for edit in edits {
-        list.try_push(placed_edit(picture, edit.text, &edit.span))?;
+        list.push(placed_edit(picture, edit.text, &edit.span));
     }
     Ok(list)
 }
@@ -54,10 +54,10 @@ pub fn last_help_line(
 #[inline(never)]
 fn put_help_row_word(out: &mut String, gutter: Gutter) -> Result<(), AllocError> {
     put_run(out, ' ', gutter.columns)?;
-    out.try_push_str(" ")?;
+    out.push_str(" ");
     put_painted_text(out, gutter.palette, Style::Secondary, "= ")?;
     put_painted_text(out, gutter.palette, Style::Bold, "help")?;
-    out.try_push_str(": ")?;
+    out.push_str(": ");
     Ok(())
 }
 
@@ -65,7 +65,7 @@ fn put_help_row_word(out: &mut String, gutter: Gutter) -> Result<(), AllocError>
 fn put_help_row(out: &mut String, gutter: Gutter, text: &str) -> Result<(), AllocError> {
     put_help_row_word(out, gutter)?;
     put_indented_text(out, gutter, text)?;
-    out.try_push_str("\n")?;
+    out.push_str("\n");
     Ok(())
 }
 
@@ -78,7 +78,7 @@ fn put_help(out: &mut String, frame: &Frame<'_>, help: &SourceHelp<'_>) -> Resul
     }
     put_help_word(out, frame.gutter.palette)?;
     put_glyphs(out, help.text, 0)?;
-    out.try_push_str("\n")?;
+    out.push_str("\n");
     let edits = placed_edits(frame.picture, help.edits)?;
     put_edits(out, frame, &edits)?;
     Ok(())

@@ -109,7 +109,7 @@ pub fn first_spot(labels: &[Label<'_>]) -> Spot {
 fn marks_of<'a>(frame: &Frame<'_>, labels: &[Label<'a>]) -> Result<Vec<Mark<'a>>, AllocError> {
     let mut list = Vec::new();
     for label in labels {
-        list.try_push(mark_in(frame, label))?;
+        list.push(mark_in(frame, label));
     }
     marks_from_right(&list)
 }
@@ -119,7 +119,7 @@ fn in_line<'a>(number: usize, marks: &[Mark<'a>]) -> Result<Vec<Mark<'a>>, Alloc
     let mut list = Vec::new();
     for mark in marks {
         if mark.line == number {
-            list.try_push(*mark)?;
+            list.push(*mark);
         }
     }
     Ok(list)

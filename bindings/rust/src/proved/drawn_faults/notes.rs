@@ -33,11 +33,11 @@ fn shown_labels(
 ) -> Result<Vec<Label<'static>>, AllocError> {
     let mut list = Vec::new();
     for span in spans {
-        list.try_push(Label {
+        list.push(Label {
             sign: '^',
             text: "",
             extent: extent_of(picture, span),
-        })?;
+        });
     }
     Ok(list)
 }
@@ -65,11 +65,11 @@ fn put_arrow(out: &mut String, frame: &Frame<'_>, at: Spot) -> Result<(), AllocE
     put_run(out, ' ', frame.gutter.columns)?;
     put_painted_text(out, frame.gutter.palette, Style::Secondary, "--> ")?;
     put_shown(out, Kind::Line, frame.picture.path)?;
-    out.try_push_str(":")?;
+    out.push_str(":");
     put_decimal(out, line)?;
-    out.try_push_str(":")?;
+    out.push_str(":");
     put_decimal(out, column)?;
-    out.try_push_str("\n")?;
+    out.push_str("\n");
     Ok(())
 }
 
@@ -85,10 +85,10 @@ pub fn put_titled_labels(
 ) -> Result<(), AllocError> {
     put_painted_text(out, frame.gutter.palette, Style::Primary, word)?;
     put_opening(out, palette, Style::Bold)?;
-    out.try_push_str(": ")?;
+    out.push_str(": ");
     put_glyphs(out, title, 0)?;
     put_closing(out, palette)?;
-    out.try_push_str("\n")?;
+    out.push_str("\n");
     put_arrow(out, frame, first_spot(labels))?;
     put_parting(out, frame)?;
     put_labels_rows(out, frame, labels)?;
@@ -99,7 +99,7 @@ pub fn put_titled_labels(
 fn put_margin(out: &mut String, gutter: Gutter, c: char) -> Result<(), AllocError> {
     if c == '\n' {
         put_run(out, ' ', gutter.columns)?;
-        out.try_push_str("         ")?;
+        out.push_str("         ");
     }
     Ok(())
 }
@@ -137,7 +137,7 @@ fn put_note_word(out: &mut String, gutter: Gutter) -> Result<(), AllocError> {
 fn put_plain_note(out: &mut String, gutter: Gutter, text: &str) -> Result<(), AllocError> {
     put_note_word(out, gutter)?;
     put_indented_text(out, gutter, text)?;
-    out.try_push_str("\n")?;
+    out.push_str("\n");
     Ok(())
 }
 

@@ -50,12 +50,12 @@ fn space() -> Cell {
 /// Puts a cell into a column of a row.
 pub fn put_cell_at(row: &mut Vec<Cell>, column: usize, cell: Cell) -> Result<(), AllocError> {
     while row.len() < column {
-        row.try_push(space())?;
+        row.push(space());
     }
     if column < row.len() {
         row[column] = cell;
     } else {
-        row.try_push(cell)?;
+        row.push(cell);
     }
     Ok(())
 }
@@ -111,7 +111,7 @@ fn put_styled_cells(out: &mut String, palette: Palette, cells: &[Cell]) -> Resul
     let mut style = Style::Plain;
     for cell in cells {
         put_change(out, palette, style, cell.style)?;
-        out.try_push(cell.character)?;
+        out.push(cell.character);
         style = cell.style;
     }
     put_reset(out, style)?;
@@ -128,7 +128,7 @@ pub fn put_written_cells(
         return Ok(put_styled_cells(out, palette, cells)?);
     }
     for cell in cells {
-        out.try_push(cell.character)?;
+        out.push(cell.character);
     }
     Ok(())
 }

@@ -98,7 +98,7 @@ pub fn hung_labels<'a>(marks: &[Mark<'a>]) -> Result<Vec<HungLabel<'a>>, AllocEr
         let others = &marks[list.len() + 1..];
         let depth = depth_of(least_depth, mark, others);
         least_depth = depth_after(depth, mark, others);
-        list.try_push(HungLabel { mark: *mark, depth })?;
+        list.push(HungLabel { mark: *mark, depth });
     }
     Ok(list)
 }

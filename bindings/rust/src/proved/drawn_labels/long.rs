@@ -83,7 +83,7 @@ fn put_signed_row(
     number: usize,
 ) -> Result<(), AllocError> {
     put_number_bar(out, frame, number)?;
-    out.try_push_str(" ")?;
+    out.push_str(" ");
     put_painted_text(out, frame.gutter.palette, Style::Primary, sign)?;
     put_source_line(out, frame, " ", number)?;
     Ok(())
@@ -122,7 +122,7 @@ fn put_bar_gap(
         put_painted_text(out, frame.gutter.palette, Style::Secondary, "...")?;
         put_run(out, ' ', frame.gutter.columns)?;
         put_painted_text(out, frame.gutter.palette, Style::Primary, "|")?;
-        out.try_push_str("\n")?;
+        out.push_str("\n");
     }
     Ok(())
 }
@@ -135,9 +135,9 @@ fn put_lead(
     columns: usize,
 ) -> Result<(), AllocError> {
     put_opening(out, palette, Style::Primary)?;
-    out.try_push_str(front)?;
+    out.push_str(front);
     put_run(out, '_', columns)?;
-    out.try_push_str("^")?;
+    out.push_str("^");
     put_closing(out, palette)?;
     Ok(())
 }
@@ -146,7 +146,7 @@ fn put_lead(
 fn put_start(out: &mut String, gutter: Gutter, columns: usize) -> Result<(), AllocError> {
     put_gutter(out, gutter)?;
     put_lead(out, gutter.palette, " ", columns)?;
-    out.try_push_str("\n")?;
+    out.push_str("\n");
     Ok(())
 }
 
@@ -172,7 +172,7 @@ fn put_end_text(out: &mut String, palette: Palette, text: &str) -> Result<(), Al
     if text.is_empty() {
         return Ok(());
     }
-    out.try_push_str(" ")?;
+    out.push_str(" ");
     put_painted_glyphs(out, palette, Style::PrimaryText, text)?;
     Ok(())
 }
@@ -182,7 +182,7 @@ fn put_end(out: &mut String, gutter: Gutter, columns: usize, text: &str) -> Resu
     put_gutter(out, gutter)?;
     put_lead(out, gutter.palette, "|", columns)?;
     put_end_text(out, gutter.palette, text)?;
-    out.try_push_str("\n")?;
+    out.push_str("\n");
     Ok(())
 }
 

@@ -54,7 +54,7 @@ fn put_signs(row: &mut Vec<Cell>, marks: &[Mark<'_>]) -> Result<(), AllocError> 
 
 /// Returns the row of signs of labels, with the texts right of them.
 fn sign_row(marks: &[Mark<'_>], labels: &[HungLabel<'_>]) -> Result<Vec<Cell>, AllocError> {
-    let mut row = Vec::made_for(ROOM)?;
+    let mut row = Vec::with_capacity(ROOM);
     put_side_texts(&mut row, labels)?;
     let covered_marks = covered_first(marks)?;
     put_signs(&mut row, &covered_marks)?;
@@ -102,7 +102,7 @@ fn put_hung_texts(
 
 /// Returns the row with `n` rows between it and the signs.
 fn hung_row(n: usize, labels: &[HungLabel<'_>]) -> Result<Vec<Cell>, AllocError> {
-    let mut row = Vec::made_for(ROOM)?;
+    let mut row = Vec::with_capacity(ROOM);
     put_bars(&mut row, n, labels)?;
     put_hung_texts(&mut row, n, labels)?;
     Ok(row)
@@ -112,7 +112,7 @@ fn hung_row(n: usize, labels: &[HungLabel<'_>]) -> Result<Vec<Cell>, AllocError>
 fn put_row(out: &mut String, gutter: Gutter, row: &[Cell]) -> Result<(), AllocError> {
     put_gutter(out, gutter)?;
     put_written_cells(out, gutter.palette, row)?;
-    out.try_push_str("\n")?;
+    out.push_str("\n");
     Ok(())
 }
 

@@ -107,7 +107,7 @@ fn put_spaces(out: &mut String, count: usize) -> Result<(), AllocError> {
     let mut countdown = count;
     while countdown > 0 {
         let piece = countdown.min(64);
-        out.try_push_str(spaces(piece))?;
+        out.push_str(spaces(piece));
         countdown -= piece;
     }
     Ok(())
@@ -119,7 +119,7 @@ pub fn put_run(out: &mut String, c: char, count: usize) -> Result<(), AllocError
         return Ok(put_spaces(out, count)?);
     }
     for _ in 0..count {
-        out.try_push(c)?;
+        out.push(c);
     }
     Ok(())
 }
@@ -133,7 +133,7 @@ fn put_printable<'a>(
 ) -> Result<(&'a str, usize), AllocError> {
     let (front, rest) = split_printable(text, text.len());
     let skip = count.min(front.len());
-    out.try_push_str(&front[skip..])?;
+    out.push_str(&front[skip..]);
     Ok((rest, count - skip))
 }
 
@@ -148,7 +148,7 @@ fn put_as_is<'a>(
         return Ok(put_printable(out, text, count)?);
     }
     let (front, rest) = split_as_is(text);
-    out.try_push_str(front)?;
+    out.push_str(front);
     Ok((rest, 0))
 }
 
@@ -159,7 +159,7 @@ fn put_as_is<'a>(
 pub fn put_glyphs(out: &mut String, text: &str, count: usize) -> Result<(), AllocError> {
     let (front, rest_after) = split_printable(text, text.len());
     if count == 0 && rest_after.is_empty() {
-        return Ok(out.try_push_str(front)?);
+        return Ok(out.push_str(front));
     }
     let (mut rest, mut skip) = put_printable(out, text, count)?;
     while let Some((c, tail)) = split_first(rest) {

@@ -17,7 +17,7 @@ use crate::shim::prelude::*;
 /// Adds a number in decimal digits.
 pub fn put_decimal(out: &mut String, number: usize) -> Result<(), AllocError> {
     let mut digits = Buffer::new();
-    out.try_push_str(digits.format(number))?;
+    out.push_str(digits.format(number));
     Ok(())
 }
 
@@ -31,14 +31,14 @@ pub fn put_blank(out: &mut String, gutter: Gutter) -> Result<(), AllocError> {
 /// Adds the gutter of a row under a line, and the space after it.
 pub fn put_gutter(out: &mut String, gutter: Gutter) -> Result<(), AllocError> {
     put_blank(out, gutter)?;
-    out.try_push_str(" ")?;
+    out.push_str(" ");
     Ok(())
 }
 
 /// Adds the row between two parts of the drawing.
 pub fn put_parting(out: &mut String, frame: &Frame<'_>) -> Result<(), AllocError> {
     put_blank(out, frame.gutter)?;
-    out.try_push_str("\n")?;
+    out.push_str("\n");
     Ok(())
 }
 
@@ -72,7 +72,7 @@ fn put_after_bar(
     window: Window,
 ) -> Result<(), AllocError> {
     if window.start > 0 || !draws_nothing(text) {
-        out.try_push_str(front)?;
+        out.push_str(front);
         put_shown_line(out, palette, window, text)?;
     }
     Ok(())
@@ -87,7 +87,7 @@ pub fn put_source_line(
 ) -> Result<(), AllocError> {
     let line = line(frame.picture.source, number);
     put_after_bar(out, frame.gutter.palette, front, line, frame.window)?;
-    out.try_push_str("\n")?;
+    out.push_str("\n");
     Ok(())
 }
 
@@ -121,7 +121,7 @@ pub fn put_gap(
         put_code(out, frame, first + 1)?;
     } else if last > first + 2 {
         put_painted_text(out, frame.gutter.palette, Style::Secondary, "...")?;
-        out.try_push_str("\n")?;
+        out.push_str("\n");
     }
     Ok(())
 }

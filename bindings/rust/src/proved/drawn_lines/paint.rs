@@ -107,7 +107,7 @@ pub fn rank(style: Style) -> u8 {
 /// Adds the escape that ends a style, if it has one.
 pub fn put_reset(out: &mut String, style: Style) -> Result<(), AllocError> {
     if rank(style) != 0 {
-        out.try_push_str("\u{1b}[0m")?;
+        out.push_str("\u{1b}[0m");
     }
     Ok(())
 }
@@ -123,7 +123,7 @@ pub fn put_change(
         return Ok(());
     }
     put_reset(out, old)?;
-    out.try_push_str(escape(palette, new))?;
+    out.push_str(escape(palette, new));
     Ok(())
 }
 
@@ -135,7 +135,7 @@ pub fn put_sign(
     sign: &str,
 ) -> Result<(), AllocError> {
     put_change(out, palette, Style::Plain, style)?;
-    out.try_push_str(sign)?;
+    out.push_str(sign);
     Ok(())
 }
 
@@ -143,7 +143,7 @@ pub fn put_sign(
 #[inline]
 pub fn put_opening(out: &mut String, palette: Palette, style: Style) -> Result<(), AllocError> {
     if has_colours(palette) {
-        out.try_push_str(escape(palette, style))?;
+        out.push_str(escape(palette, style));
     }
     Ok(())
 }
@@ -152,7 +152,7 @@ pub fn put_opening(out: &mut String, palette: Palette, style: Style) -> Result<(
 #[inline]
 pub fn put_closing(out: &mut String, palette: Palette) -> Result<(), AllocError> {
     if has_colours(palette) {
-        out.try_push_str("\u{1b}[0m")?;
+        out.push_str("\u{1b}[0m");
     }
     Ok(())
 }
@@ -167,7 +167,7 @@ pub fn put_painted_text(
 ) -> Result<(), AllocError> {
     if !text.is_empty() {
         put_opening(out, palette, style)?;
-        out.try_push_str(text)?;
+        out.push_str(text);
         put_closing(out, palette)?;
     }
     Ok(())
@@ -177,9 +177,9 @@ pub fn put_painted_text(
 #[inline]
 pub fn put_gutter_bar(out: &mut String, palette: Palette) -> Result<(), AllocError> {
     match palette {
-        Palette::Colourless => out.try_push_str(" |")?,
+        Palette::Colourless => out.push_str(" |"),
         Palette::Error | Palette::Warning | Palette::Note => {
-            out.try_push_str(" \u{1b}[1m\u{1b}[94m|\u{1b}[0m")?;
+            out.push_str(" \u{1b}[1m\u{1b}[94m|\u{1b}[0m");
         }
     }
     Ok(())
@@ -188,9 +188,9 @@ pub fn put_gutter_bar(out: &mut String, palette: Palette) -> Result<(), AllocErr
 /// Adds the start of a note, after the columns of the gutter.
 pub fn put_note_sign(out: &mut String, palette: Palette) -> Result<(), AllocError> {
     match palette {
-        Palette::Colourless => out.try_push_str(" = note: ")?,
+        Palette::Colourless => out.push_str(" = note: "),
         Palette::Error | Palette::Warning | Palette::Note => {
-            out.try_push_str(" \u{1b}[1m\u{1b}[94m= \u{1b}[0m\u{1b}[1mnote\u{1b}[0m: ")?;
+            out.push_str(" \u{1b}[1m\u{1b}[94m= \u{1b}[0m\u{1b}[1mnote\u{1b}[0m: ");
         }
     }
     Ok(())

@@ -122,7 +122,7 @@ fn put_front_columns(out: &mut String, text: &str, count: usize) -> Result<(), A
         if countdown < width(c) {
             break;
         }
-        out.try_push(c)?;
+        out.push(c);
         countdown -= width(c);
         rest = tail;
     }
@@ -140,7 +140,7 @@ fn put_in_window(
     if is_wide {
         put_front_columns(out, rest, window.limit)?;
     } else {
-        out.try_push_str(rest)?;
+        out.push_str(rest);
     }
     Ok(())
 }
@@ -170,7 +170,7 @@ fn put_up_to_dots(
     rest: &str,
 ) -> Result<(), AllocError> {
     if !is_wide {
-        return Ok(out.try_push_str(rest)?);
+        return Ok(out.push_str(rest));
     }
     put_front_columns(out, rest, columns(rest).saturating_sub(3))?;
     put_painted_text(out, palette, Style::Secondary, "...")?;
@@ -222,7 +222,7 @@ pub fn put_shown_line(
     }
     let (front, rest) = split_printable(text, text.len());
     if window.start == 0 && rest.is_empty() && front.len() <= window.room {
-        return Ok(out.try_push_str(front)?);
+        return Ok(out.push_str(front));
     }
     let is_wide = columns(text).saturating_sub(window.start) > window.room;
     if window.start == 0 && !is_wide {

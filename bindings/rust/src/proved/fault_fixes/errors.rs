@@ -22,9 +22,9 @@ fn add_each(errors: &mut Errors, faults: &[Fault<'_>]) -> Result<(), AllocError>
     for fault in faults {
         let error = fault.error()?;
         if fault.is_front() {
-            errors.front_errors.try_push(error)?;
+            errors.front_errors.push(error);
         } else {
-            errors.back_errors.try_push(error)?;
+            errors.back_errors.push(error);
         }
     }
     Ok(())
@@ -49,7 +49,7 @@ fn into_list(errors: Errors) -> Result<Vec<ParseError>, AllocError> {
     let mut list = errors.front_errors;
     let mut back_errors = errors.back_errors;
     list.reverse();
-    list.try_append(&mut back_errors)?;
+    list.append(&mut back_errors);
     Ok(list)
 }
 

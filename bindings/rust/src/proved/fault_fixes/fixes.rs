@@ -87,7 +87,7 @@ pub fn edits<'e>(mode: ParseMode, errors: &'e [ParseError]) -> Result<Vec<Edit<'
         if let Some(edit) = offered_edit(mode, &error.suggestion) {
             if end < edit.span.start && edit.span.start <= edit.span.end {
                 end = edit.span.end;
-                edits.try_push(edit)?;
+                edits.push(edit);
             }
         }
     }
@@ -134,8 +134,8 @@ fn make(
             progress.rest,
             edit.span.start.saturating_sub(progress.start),
         );
-        progress.bytes.try_extend_from_slice(source)?;
-        progress.bytes.try_extend_from_slice(edit.text.as_bytes())?;
+        progress.bytes.extend_from_slice(source);
+        progress.bytes.extend_from_slice(edit.text.as_bytes());
         progress.rest = rest_after(progress.rest, edit.span.end.saturating_sub(progress.start));
         progress.start = edit.span.end;
         progress.end = edit.span.end;
@@ -200,7 +200,7 @@ fn edit_all(
         make_next(&mut progress, mode, parser, &mut argument, &mut faults)?;
     }
     let rest = progress.rest;
-    progress.bytes.try_extend_from_slice(rest)?;
+    progress.bytes.extend_from_slice(rest);
     Ok(AllEdits {
         bytes: progress.bytes,
         has_edits: progress.end > 0,
@@ -223,7 +223,7 @@ fn edited_literal(
     appended_newline: bool,
     mode: ParseMode,
 ) -> Result<Option<String>, AllocError> {
-    let snippet_copy = String::made_from(snippet)?;
+    let snippet_copy = String::from(snippet);
     let mut parser = Parser::new(input, style, Some(snippet_copy), appended_newline, mode)?;
     let AllEdits { bytes, has_edits } = edit_all(mode, &mut parser, snippet, 0)?;
     if !has_edits {

@@ -10,11 +10,11 @@ use crate::shim::prelude::*;
 /// Appends a line that says which example follows, and the example.
 #[inline(never)]
 fn put_example(out: &mut String, heading: &str, example: &str) -> Result<(), AllocError> {
-    out.try_push_str("\n")?;
-    out.try_push_str(heading)?;
-    out.try_push_str(":\n\n    ")?;
-    out.try_push_str(example)?;
-    out.try_push_str("\n")?;
+    out.push_str("\n");
+    out.push_str(heading);
+    out.push_str(":\n\n    ");
+    out.push_str(example);
+    out.push_str("\n");
     Ok(())
 }
 
@@ -22,12 +22,12 @@ fn put_example(out: &mut String, heading: &str, example: &str) -> Result<(), All
 /// without the fault.
 #[inline(never)]
 pub fn put_explanation(out: &mut String, rule: &Rule) -> Result<(), AllocError> {
-    out.try_push_str(rule.id)?;
-    out.try_push_str(": ")?;
-    out.try_push_str(rule.summary)?;
-    out.try_push_str("\n\n")?;
-    out.try_push_str(rule.explanation)?;
-    out.try_push_str("\n")?;
+    out.push_str(rule.id);
+    out.push_str(": ");
+    out.push_str(rule.summary);
+    out.push_str("\n\n");
+    out.push_str(rule.explanation);
+    out.push_str("\n");
     put_example(out, "With the fault", rule.example)?;
     put_example(out, "Without it", rule.correction)?;
     Ok(())

@@ -21,10 +21,10 @@ use core::ops::Range;
 fn owned_edits(edits: &[Edit<'_>]) -> Result<Vec<OwnedEdit>, AllocError> {
     let mut list = Vec::new();
     for edit in edits {
-        list.try_push(OwnedEdit {
+        list.push(OwnedEdit {
             range: edit.span.start..edit.span.end,
-            text: String::made_from(edit.text)?,
-        })?;
+            text: String::from(edit.text),
+        });
     }
     Ok(list)
 }
@@ -40,7 +40,7 @@ fn fault_with(
     Ok(Finding {
         is_warning: false,
         id,
-        title: String::made_from(title)?,
+        title: String::from(title),
         span: span.start..span.end,
         labels: Vec::new(),
         notes: Vec::new(),
@@ -103,20 +103,19 @@ fn put_other(
     let moved = moved_edit(string, edit)?;
     if range.start <= moved.span.start && moved.span.end < range.end {
         let span = moved.span.start..moved.span.end;
-        all.try_push(fault_with(edit_id(edit), "", &span, &[moved])?)?;
+        all.push(fault_with(edit_id(edit), "", &span, &[moved])?);
     }
     Ok(())
 }
 
 /// Adds a copy of a fault of a report, with these edits.
-#[inline(never)]
 fn put_copy(
     all: &mut Vec<Finding>,
     finding: &Finding,
     edits: &[Edit<'_>],
 ) -> Result<(), AllocError> {
     let title = finding.title.as_str();
-    all.try_push(fault_with(finding.id, title, &finding.span, edits)?)?;
+    all.push(fault_with(finding.id, title, &finding.span, edits)?);
     Ok(())
 }
 
@@ -145,7 +144,7 @@ fn put_string(
     own: Range<usize>,
 ) -> Result<(), AllocError> {
     let literal = &string.literal;
-    let snippet = String::made_from(literal.snippet.as_str())?;
+    let snippet = String::from(literal.snippet.as_str());
     let errors = errors_of(
         literal.text.as_str(),
         literal.style,

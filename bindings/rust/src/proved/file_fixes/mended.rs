@@ -6,7 +6,6 @@
 use crate::proved::fault_fixes::Edit;
 use crate::proved::source_report::{are_after, edits_of, is_applicable, Finding};
 use crate::shim::alloc::AllocError;
-use crate::shim::prelude::*;
 use alloc::collections::BTreeSet;
 
 /// Where an edit ends.
@@ -63,7 +62,7 @@ fn last_end(before: EditEnd, edits: &[Edit<'_>]) -> Result<EditEnd, AllocError> 
 /// Adds an end.
 #[inline]
 fn insert_end(ends: &mut BTreeSet<usize>, end: usize) -> Result<(), AllocError> {
-    ends.insert_in(end)?;
+    ends.insert(end);
     Ok(())
 }
 

@@ -34,10 +34,10 @@ fn old_parts(edits: &[Edit<'_>]) -> Result<Vec<EditedPart>, AllocError> {
     let mut parts = Vec::new();
     let mut end = 0;
     for edit in edits {
-        parts.try_push(EditedPart {
+        parts.push(EditedPart {
             gap: edit.span.start.saturating_sub(end),
             width: edit.span.end.saturating_sub(edit.span.start),
-        })?;
+        });
         end = edit.span.end;
     }
     Ok(parts)
@@ -49,10 +49,10 @@ fn new_parts(edits: &[Edit<'_>]) -> Result<Vec<EditedPart>, AllocError> {
     let mut parts = Vec::new();
     let mut end = 0;
     for edit in edits {
-        parts.try_push(EditedPart {
+        parts.push(EditedPart {
             gap: edit.span.start.saturating_sub(end),
             width: edit.text.len(),
-        })?;
+        });
         end = edit.span.end;
     }
     Ok(parts)
@@ -110,7 +110,7 @@ fn untouched_tokens(parts: &[EditedPart], tokens: &[Token]) -> Result<Vec<Token>
     for token in tokens {
         place = place_after(token.span.start, place, parts);
         if is_before(token.span.end, place, parts) {
-            others.try_push(moved_token(place.width, token))?;
+            others.push(moved_token(place.width, token));
         }
     }
     Ok(others)

@@ -30,7 +30,7 @@ fn add_edits<'f>(
         return Ok(at);
     }
     let end = end_after(at, edits.as_slice());
-    all.try_append(&mut edits)?;
+    all.append(&mut edits);
     Ok(end)
 }
 

@@ -168,7 +168,7 @@ fn most_rounds(text: &str) -> usize {
 #[inline(never)]
 fn with_round(file_fixes: FileFixes, round: Round) -> Result<FileFixes, AllocError> {
     let mut ids = file_fixes.ids;
-    ids.try_extend_from_slice(round.ids.as_slice())?;
+    ids.extend_from_slice(round.ids.as_slice());
     Ok(FileFixes {
         text: Some(round.text),
         ids,

@@ -293,8 +293,8 @@ pub(crate) fn inline_calls<'a>(
             return Ok(());
         };
         let mut one = inline_on(file, part, call, *reading, terms)?;
-        results.inlinings.try_push(one.inlining)?;
-        results.edits.try_append(&mut one.edits)?;
+        results.inlinings.push(one.inlining);
+        results.edits.append(&mut one.edits);
         rest = others;
         rest_readings = more;
     }

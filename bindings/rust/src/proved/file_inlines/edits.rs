@@ -18,10 +18,10 @@ use crate::shim::prelude::*;
 fn token_edits(crs: &[usize], edits: &[Edit]) -> Result<Vec<Edit>, AllocError> {
     let mut list = Vec::new();
     for edit in edits {
-        list.try_push(Edit {
+        list.push(Edit {
             span: offset_in(crs, edit.span.start)..offset_in(crs, edit.span.end),
-            text: String::made_from(edit.text.as_str())?,
-        })?;
+            text: String::from(edit.text.as_str()),
+        });
     }
     Ok(list)
 }
@@ -33,10 +33,10 @@ fn move_edits(edits: &[Edit], offset: usize) -> Result<Vec<Edit>, AllocError> {
     for edit in edits {
         let start = offset.saturating_add(edit.span.start);
         let end = offset.saturating_add(edit.span.end);
-        list.try_push(Edit {
+        list.push(Edit {
             span: start..end,
-            text: String::made_from(edit.text.as_str())?,
-        })?;
+            text: String::from(edit.text.as_str()),
+        });
     }
     Ok(list)
 }
@@ -52,10 +52,10 @@ fn push_removals(
 ) -> Result<(), AllocError> {
     for index in indices {
         if let Some(argument) = argument_at(arguments, *index) {
-            edits.try_push(Edit {
+            edits.push(Edit {
                 span: removal_range(text, tokens, &argument),
                 text: String::new(),
-            })?;
+            });
         }
     }
     Ok(())

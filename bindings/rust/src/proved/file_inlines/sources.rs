@@ -75,7 +75,7 @@ pub(crate) fn with_sources<'a>(
 ) -> Result<Vec<FormatArgument<'a>>, AllocError> {
     let mut list = Vec::new();
     for argument in arguments {
-        list.try_push(with_source(text, tokens, argument))?;
+        list.push(with_source(text, tokens, argument));
     }
     Ok(list)
 }

@@ -37,11 +37,10 @@ fn digit(number: u8) -> char {
 }
 
 /// Adds the text of a byte that is not UTF-8.
-#[inline(never)]
 fn put_escape(out: &mut String, byte: u8) -> Result<(), AllocError> {
-    out.try_push('\0')?;
-    out.try_push(digit(byte / 16))?;
-    out.try_push(digit(byte % 16))?;
+    out.push('\0');
+    out.push(digit(byte / 16));
+    out.push(digit(byte % 16));
     Ok(())
 }
 
@@ -50,11 +49,11 @@ fn put_escape(out: &mut String, byte: u8) -> Result<(), AllocError> {
 pub fn path_text(path: &[u8]) -> Result<String, AllocError> {
     let mut text = String::new();
     let (front, mut rest) = split_text(path);
-    text.try_push_str(front)?;
+    text.push_str(front);
     while let Some((byte, tail)) = rest.split_first() {
         put_escape(&mut text, *byte)?;
         let (front, rest_after) = split_text(tail);
-        text.try_push_str(front)?;
+        text.push_str(front);
         rest = rest_after;
     }
     Ok(text)
@@ -93,7 +92,7 @@ pub fn path_bytes(text: &str) -> Result<Vec<u8>, AllocError> {
     let mut path = Vec::new();
     let mut rest = text.as_bytes();
     while let Some((byte, tail)) = split_byte(rest) {
-        path.try_push(byte)?;
+        path.push(byte);
         rest = tail;
     }
     Ok(path)
@@ -112,10 +111,10 @@ pub fn shown_path(text: &str) -> Result<String, AllocError> {
     let mut shown = String::new();
     let mut rest = text;
     while let Some((front, tail)) = around_nul(rest) {
-        shown.try_push_str(front)?;
-        shown.try_push_str("\\x")?;
+        shown.push_str(front);
+        shown.push_str("\\x");
         rest = tail;
     }
-    shown.try_push_str(rest)?;
+    shown.push_str(rest);
     Ok(shown)
 }

@@ -113,8 +113,8 @@ fn excerpt_of<'a>(
         if line.len() > MOST {
             return Ok(None);
         }
-        source.try_push_str(line.strip_suffix('\r').unwrap_or(line))?;
-        source.try_push('\n')?;
+        source.push_str(line.strip_suffix('\r').unwrap_or(line));
+        source.push('\n');
     }
     let number = if place.line <= u32::MAX as usize {
         place.line as u32
@@ -155,11 +155,11 @@ impl<'a> Excerpt<'a> {
     fn labels<'f>(&self, finding: &'f Finding) -> Result<Vec<SourceLabel<'f>>, AllocError> {
         let mut labels = Vec::new();
         for label in &finding.labels {
-            labels.try_push(SourceLabel {
+            labels.push(SourceLabel {
                 span: self.range(&label.range),
                 is_primary: label.is_primary,
                 text: label.text.as_str(),
-            })?;
+            });
         }
         Ok(labels)
     }
@@ -171,9 +171,9 @@ impl<'a> Excerpt<'a> {
         for note in &finding.notes {
             let mut ranges = Vec::new();
             for range in &note.ranges {
-                ranges.try_push(self.range(range))?;
+                ranges.push(self.range(range));
             }
-            all.try_push(ranges)?;
+            all.push(ranges);
         }
         Ok(all)
     }
@@ -188,10 +188,10 @@ impl<'a> Excerpt<'a> {
         let mut edits = Vec::new();
         if let Some(help) = &finding.help {
             for (edit, text) in help.edits.iter().zip(texts) {
-                edits.try_push(Edit {
+                edits.push(Edit {
                     span: self.range(&edit.range),
                     text: text.as_str(),
-                })?;
+                });
             }
         }
         Ok(edits)
@@ -205,10 +205,10 @@ fn with_line_feeds(text: &str) -> Result<String, AllocError> {
     let mut is_first = true;
     for part in text.split("\r\n") {
         if !is_first {
-            out.try_push('\n')?;
+            out.push('\n');
         }
         is_first = false;
-        out.try_push_str(part)?;
+        out.push_str(part);
     }
     Ok(out)
 }
@@ -219,7 +219,7 @@ fn edit_texts(finding: &Finding) -> Result<Vec<String>, AllocError> {
     let mut texts = Vec::new();
     if let Some(help) = &finding.help {
         for edit in &help.edits {
-            texts.try_push(with_line_feeds(edit.text.as_str())?)?;
+            texts.push(with_line_feeds(edit.text.as_str())?);
         }
     }
     Ok(texts)
@@ -233,10 +233,10 @@ fn notes<'f>(
 ) -> Result<Vec<SourceNote<'f>>, AllocError> {
     let mut notes = Vec::new();
     for (note, spans) in finding.notes.iter().zip(ranges) {
-        notes.try_push(SourceNote {
+        notes.push(SourceNote {
             text: note.text.as_str(),
             spans: spans.as_slice(),
-        })?;
+        });
     }
     Ok(notes)
 }
@@ -249,10 +249,10 @@ fn helps<'f>(
 ) -> Result<Vec<SourceHelp<'f>>, AllocError> {
     let mut helps = Vec::new();
     if let Some(help) = &finding.help {
-        helps.try_push(SourceHelp {
+        helps.push(SourceHelp {
             text: help.text.as_str(),
             edits,
-        })?;
+        });
     }
     Ok(helps)
 }

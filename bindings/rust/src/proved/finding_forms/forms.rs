@@ -130,7 +130,7 @@ fn label_spans<'a>(file: &File<'a>, finding: &'a Finding) -> Result<Vec<Span<'a>
         if !label.text.is_empty() && !is_suggestion {
             span.label = Some(label.text.as_str());
         }
-        spans.try_push(span)?;
+        spans.push(span);
     }
     Ok(spans)
 }
@@ -155,7 +155,7 @@ fn edit_spans<'a>(
             text: edit.text.as_str(),
             is_sure,
         });
-        spans.try_push(span)?;
+        spans.push(span);
     }
     Ok(spans)
 }
@@ -173,7 +173,7 @@ fn suggestion_spans<'a>(
         is_sure: suggestion.is_sure,
     });
     let mut spans = Vec::new();
-    spans.try_push(span)?;
+    spans.push(span);
     Ok(spans)
 }
 
@@ -188,22 +188,22 @@ fn child_spans<'a>(
     for note in &finding.notes {
         let mut spans = Vec::new();
         for range in &note.ranges {
-            spans.try_push(json_span(file, range))?;
+            spans.push(json_span(file, range));
         }
-        all.try_push(spans)?;
+        all.push(spans);
     }
     for number in 0..TRAITS {
         if let Some(suggestion) = trait_suggestion(finding.id, number) {
-            all.try_push(suggestion_spans(file, &finding.span, suggestion)?)?;
+            all.push(suggestion_spans(file, &finding.span, suggestion)?);
         }
     }
     for label in &finding.labels {
         if let Some(suggestion) = suggestion_of(label.text.as_str()) {
-            all.try_push(suggestion_spans(file, &label.range, suggestion)?)?;
+            all.push(suggestion_spans(file, &label.range, suggestion)?);
         }
     }
     if let Some(help) = &finding.help {
-        all.try_push(edit_spans(file, help, is_sure(finding.id))?)?;
+        all.push(edit_spans(file, help, is_sure(finding.id))?);
     }
     Ok(all)
 }
@@ -217,22 +217,22 @@ fn children<'a, 's>(
 ) -> Result<Vec<Child<'a, 's>>, AllocError> {
     let mut children = Vec::new();
     for (note, spans) in finding.notes.iter().zip(ranges) {
-        children.try_push(Child {
+        children.push(Child {
             level: ChildLevel::Note,
             text: note.text.as_str(),
             spans: spans.as_slice(),
-        })?;
+        });
     }
     let mut index = finding.notes.len();
     for number in 0..TRAITS {
         if let (Some(suggestion), Some(spans)) =
             (trait_suggestion(finding.id, number), ranges.get(index))
         {
-            children.try_push(Child {
+            children.push(Child {
                 level: ChildLevel::Help,
                 text: suggestion.advice,
                 spans: spans.as_slice(),
-            })?;
+            });
             index = index.saturating_add(1);
         }
     }
@@ -240,20 +240,20 @@ fn children<'a, 's>(
         if let (Some(suggestion), Some(spans)) =
             (suggestion_of(label.text.as_str()), ranges.get(index))
         {
-            children.try_push(Child {
+            children.push(Child {
                 level: ChildLevel::Help,
                 text: suggestion.advice,
                 spans: spans.as_slice(),
-            })?;
+            });
             index = index.saturating_add(1);
         }
     }
     if let (Some(help), Some(spans)) = (&finding.help, ranges.last()) {
-        children.try_push(Child {
+        children.push(Child {
             level: ChildLevel::Help,
             text: help.text.as_str(),
             spans: spans.as_slice(),
-        })?;
+        });
     }
     Ok(children)
 }

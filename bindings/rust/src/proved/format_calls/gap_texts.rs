@@ -63,7 +63,7 @@ impl<'a> Gaps<'a> {
             return Ok(());
         }
         match gap_before(rest, offset, part) {
-            Some(gap) => self.fronts.try_push(gap)?,
+            Some(gap) => self.fronts.push(gap),
             None => self.are_known = false,
         }
         Ok(())

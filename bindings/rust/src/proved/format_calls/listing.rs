@@ -61,7 +61,7 @@ pub fn calls(source: &Source<'_>, table: &Table<'_>) -> Result<Vec<Call>, AllocE
     let mut calls = Vec::new();
     for name in 0..source.tokens().len() {
         if let Some(call) = call_at(source, &table.rows, name) {
-            calls.try_push(call)?;
+            calls.push(call);
         }
     }
     Ok(calls)

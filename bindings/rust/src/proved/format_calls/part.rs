@@ -45,12 +45,12 @@ fn last_targets(tokens: &[Token<'_>], target: Target) -> Result<Vec<usize>, Allo
         return Ok(counts);
     }
     let mut last = 0;
-    counts.try_push(last)?;
+    counts.push(last);
     for (index, token) in tokens.iter().enumerate() {
         if is_target(target, token) {
             last = index + 1;
         }
-        counts.try_push(last)?;
+        counts.push(last);
     }
     Ok(counts)
 }

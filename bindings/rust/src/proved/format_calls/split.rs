@@ -79,11 +79,11 @@ fn arguments_between(
     while start < close {
         let end = argument_end(source, opening, start, close);
         let is_named = is_named(tokens, start);
-        arguments.try_push(Argument {
+        arguments.push(Argument {
             start,
             end,
             is_named,
-        })?;
+        });
         if end == close {
             return Ok(arguments);
         }

@@ -193,7 +193,7 @@ const CRATES: [Row<'static>; 13] = [
 /// Adds rows to the end of a list.
 fn push_rows<'a>(rows: &mut Vec<Row<'a>>, new_rows: &[Row<'static>]) -> Result<(), AllocError> {
     for row in new_rows {
-        rows.try_push(*row)?;
+        rows.push(*row);
     }
     Ok(())
 }
@@ -216,7 +216,7 @@ impl<'a> Table<'a> {
     /// Adds a macro before the others.
     #[inline]
     pub(crate) fn add(&mut self, row: Row<'a>) -> Result<(), AllocError> {
-        self.rows.insert_in(0, row)?;
+        self.rows.insert(0, row);
         Ok(())
     }
 }

@@ -72,7 +72,7 @@ fn labels_of<'a>(
 #[inline(never)]
 fn parser_of<'a>(mode: ParseMode, source: Source<'a>) -> Result<Parser<'a>, AllocError> {
     let snippet = match source.literal {
-        Some(literal) => Some(String::made_from(literal)?),
+        Some(literal) => Some(String::from(literal)),
         None => None,
     };
     Parser::new(source.text, source.style, snippet, false, mode)

@@ -30,12 +30,12 @@ pub struct Outputs {
 /// Appends a line with the id of a fault, which says whether it follows from the one before.
 #[inline(never)]
 fn put_id(out: &mut String, finding: &Finding<'_>) -> Result<(), AllocError> {
-    out.try_push_str(if finding.is_consequence {
+    out.push_str(if finding.is_consequence {
         "follows: "
     } else {
         "fault: "
-    })?;
-    out.try_push_str(finding.fault.id())?;
+    });
+    out.push_str(finding.fault.id());
     out.try_push('\n')?;
     Ok(())
 }
@@ -72,8 +72,8 @@ fn put_more_line(out: &mut String, count: usize) -> Result<(), AllocError> {
     if count == 0 {
         return Ok(());
     }
-    let line = crate::shim::try_format!("and {count} more\n")?;
-    out.try_push_str(line.as_str())?;
+    let line = ::alloc::format!("and {count} more\n");
+    out.push_str(line.as_str());
     Ok(())
 }
 
@@ -165,8 +165,8 @@ fn with_drawing(
 #[inline(never)]
 fn kept_output(task: Task<'_>, source: Source<'_>) -> Result<Outputs, AllocError> {
     let mut output = String::new();
-    output.try_push_str(source.literal.unwrap_or(source.text))?;
-    output.try_push_str("\n")?;
+    output.push_str(source.literal.unwrap_or(source.text));
+    output.push_str("\n");
     let faults = faults_in(task.mode, source)?;
     Ok(with_drawing(output, task, source, &faults)?)
 }
@@ -203,7 +203,7 @@ fn token_output(task: Task<'_>, source: Source<'_>) -> Result<Outputs, AllocErro
     let mut output = String::new();
     put_tokens(&mut output, task.colours, source_text, tokens.as_slice())?;
     if task.colours {
-        output.try_push_str("\n")?;
+        output.push_str("\n");
     }
     Ok(with_drawing(output, task, source, &faults)?)
 }
@@ -259,6 +259,6 @@ pub fn outputs_of_input(input: &str, task: Task<'_>) -> Result<Outputs, RunFault
         return outputs_of_literal(input, task);
     }
     // without a literal a span is one more than in the text, and so is the place in these lines
-    let lines = crate::shim::try_format!("\n{input}")?;
+    let lines = ::alloc::format!("\n{input}");
     Ok(outputs_of(text_source(input, lines.as_str()), task)?)
 }

@@ -63,7 +63,7 @@ fn colour_escape(kind: Kind) -> Option<&'static str> {
 /// Adds a text as it is drawn. If `is_plain`, each of its characters is drawn as it is.
 fn put_drawn_text(out: &mut String, is_plain: bool, text: &str) -> Result<(), AllocError> {
     if is_plain {
-        return Ok(out.try_push_str(text)?);
+        return Ok(out.push_str(text));
     }
     put_glyphs(out, text, 0)?;
     Ok(())
@@ -80,9 +80,9 @@ fn put_coloured_text(
 ) -> Result<(), AllocError> {
     match colour_escape(kind) {
         Some(escape) => {
-            out.try_push_str(escape)?;
+            out.push_str(escape);
             put_drawn_text(out, is_plain, text)?;
-            out.try_push_str("\u{1b}[0m")?;
+            out.push_str("\u{1b}[0m");
         }
         None => put_drawn_text(out, is_plain, text)?,
     }
@@ -106,7 +106,7 @@ fn put_quoted_text(out: &mut String, is_plain: bool, text: &str) -> Result<(), A
 /// of that beyond ASCII is drawn as it is.
 #[inline(never)]
 fn put_line(out: &mut String, is_plain: bool, token: &Token, text: &str) -> Result<(), AllocError> {
-    out.try_push_str(kind_name(token.kind))?;
+    out.push_str(kind_name(token.kind));
     put_span(out, ' ', &token.span)?;
     out.try_push(' ')?;
     put_quoted_text(out, is_plain, text)?;
@@ -163,10 +163,10 @@ pub fn put_tokens(
 ) -> Result<(), AllocError> {
     let token_width = if colours { ESCAPES_WIDTH } else { LINE_WIDTH };
     // most often enough for all of them, so that what was written is not moved again and again
-    out.try_reserve_more(
+    out.reserve(
         text.len()
             .saturating_add(tokens.len().saturating_mul(token_width)),
-    )?;
+    );
     let is_plain = stays_as_is(colours, text);
     let mut rest = text;
     for token in tokens {

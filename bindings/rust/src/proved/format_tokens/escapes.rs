@@ -63,20 +63,20 @@ fn is_apart(kind: Kind, character: Option<char>) -> bool {
 /// Adds the token of a byte range if that is not empty.
 fn put_run(tokens: &mut Vec<Token>, kind: Kind, from: usize, to: usize) -> Result<(), AllocError> {
     if from < to {
-        tokens.try_push(Token {
+        tokens.push(Token {
             kind,
             span: from..to,
-        })?;
+        });
     }
     Ok(())
 }
 
 /// Adds an escape of a byte range.
 fn put_escape(tokens: &mut Vec<Token>, span: Range<usize>) -> Result<(), AllocError> {
-    tokens.try_push(Token {
+    tokens.push(Token {
         kind: Kind::EscapeSequence,
         span,
-    })?;
+    });
     Ok(())
 }
 
@@ -128,7 +128,7 @@ fn has_backslash(text: &str) -> bool {
 /// Returns the tokens of an ordinary literal cut at its escapes.
 #[inline(never)]
 fn cut(literal: &str, tokens: &[Token]) -> Result<Vec<Token>, AllocError> {
-    let mut list = Vec::made_for(tokens.len())?;
+    let mut list = Vec::with_capacity(tokens.len());
     let mut rest = literal;
     for token in tokens {
         let width = token.span.end.saturating_sub(token.span.start);

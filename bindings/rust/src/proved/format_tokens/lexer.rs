@@ -71,16 +71,16 @@ fn place_whole(
     let count = length_of(input).saturating_sub(usize::from(appended_newline));
     let offsets = literal_starts(input, style, literal, appended_newline)?;
     let starts = offsets.as_slice();
-    let mut tokens = Vec::made_for(labels.len().saturating_add(2))?;
-    tokens.try_push(Token {
+    let mut tokens = Vec::with_capacity(labels.len().saturating_add(2));
+    tokens.push(Token {
         kind: Kind::Quote,
         span: 0..starts[0],
-    })?;
+    });
     place(&mut tokens, needs_names, labels, starts, count)?;
-    tokens.try_push(Token {
+    tokens.push(Token {
         kind: Kind::Quote,
         span: starts[starts.len() - 1]..width_of(literal),
-    })?;
+    });
     Ok(tokens)
 }
 
@@ -99,7 +99,7 @@ pub fn place_labels(
     let Some(literal) = source_of(input, style, snippet, appended_newline) else {
         let count = length_of(input).saturating_sub(usize::from(appended_newline));
         let starts = plain_starts(0, input, width_of(input))?;
-        let mut tokens = Vec::made_for(labels.len())?;
+        let mut tokens = Vec::with_capacity(labels.len());
         place(&mut tokens, needs_names, labels, starts.as_slice(), count)?;
         return Ok(tokens);
     };

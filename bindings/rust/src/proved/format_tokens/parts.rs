@@ -32,10 +32,10 @@ pub fn take<'a>(
     }
     match text.parts_at(bytes) {
         Some((front, rest)) => {
-            labels.try_push(Label {
+            labels.push(Label {
                 kind,
                 width: length_of(front),
-            })?;
+            });
             Ok(rest)
         }
         None => Ok(""),

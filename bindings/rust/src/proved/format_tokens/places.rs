@@ -14,14 +14,14 @@ use crate::shim::prelude::*;
 /// character stands for itself, and then `end`.
 #[inline(never)]
 pub fn plain_starts(at: usize, text: &str, end: usize) -> Result<Vec<usize>, AllocError> {
-    let mut starts = Vec::made_for(length_of(text).saturating_add(1))?;
+    let mut starts = Vec::with_capacity(length_of(text).saturating_add(1));
     let mut next = at;
     let mut rest = text.chars();
     while let Some(c) = rest.next() {
-        starts.try_push(next)?;
+        starts.push(next);
         next += c.len_utf8();
     }
-    starts.try_push(end)?;
+    starts.push(end);
     Ok(starts)
 }
 
@@ -35,16 +35,16 @@ pub fn ordinary_starts(snippet: &str, appended_newline: bool) -> Result<Vec<usiz
     let Some(characters) = read_content(content)? else {
         return Ok(Vec::new());
     };
-    let mut starts = Vec::made_for(characters.len().saturating_add(2))?;
+    let mut starts = Vec::with_capacity(characters.len().saturating_add(2));
     let mut end = 1;
     for character in &characters {
-        starts.try_push(character.span.start + 1)?;
+        starts.push(character.span.start + 1);
         end = character.span.end + 1;
     }
     if appended_newline {
-        starts.try_push(end)?;
+        starts.push(end);
     }
-    starts.try_push(end)?;
+    starts.push(end);
     Ok(starts)
 }
 
@@ -66,10 +66,10 @@ pub fn place(
         let is_in_place = fits(needs_names, is_inside, role, others);
         let to = at + label.width.min(count - at);
         if at < to {
-            tokens.try_push(Token {
+            tokens.push(Token {
                 kind: marked_kind(label.kind, is_in_place),
                 span: starts[at]..starts[to],
-            })?;
+            });
         }
         at = to;
         is_inside = inside_after(is_inside, is_in_place, role);

@@ -105,7 +105,7 @@ fn may_allow_word(text: &str, word: &str) -> bool {
         return false;
     }
     let (front, _) = text.rsplit_once(word).unwrap_or((text, ""));
-    front.contains("allow") || front.contains("expect")
+    front.has_text("allow") || front.has_text("expect")
 }
 
 /// Returns whether a text with attributes can have one that allows the lint.
@@ -118,7 +118,7 @@ fn may_allow(lint: Lint, text: &str) -> bool {
         Lint::Arguments => {
             may_allow_word(text, "uninlined_format_args")
                 || may_allow_word(text, "pedantic")
-                || text.contains("msrv")
+                || text.has_text("msrv")
         }
         // (the end of its name: Rust's library finds up to 32 bytes sixteen at a time)
         Lint::Positions => may_allow_word(text, "used_positionally"),
@@ -172,12 +172,12 @@ impl<'a> Scan<'a> {
         }
         let is_whole = attribute.is_inner && attribute.depth == 0;
         self.found.is_whole = self.found.is_whole || is_whole;
-        self.open_parts.try_push(OpenPart {
+        self.open_parts.push(OpenPart {
             start: if is_whole { 0 } else { attribute.start },
             depth: attribute.depth,
             is_inner: attribute.is_inner,
             is_let: false,
-        })?;
+        });
         Ok(())
     }
 
@@ -194,7 +194,7 @@ impl<'a> Scan<'a> {
             }
             let _ = self.found.ranges.pop();
         }
-        self.found.ranges.try_push(part.start..end)?;
+        self.found.ranges.push(part.start..end);
         Ok(())
     }
 
@@ -224,12 +224,12 @@ impl<'a> Scan<'a> {
     fn pass_outside(&mut self, token: Token<'a>) -> Result<(), AllocError> {
         if is_named(Some(token), "let") && is_mark(self.last, b']') {
             if let Some(part) = self.open_parts.pop() {
-                self.open_parts.try_push(OpenPart {
+                self.open_parts.push(OpenPart {
                     start: part.start,
                     depth: part.depth,
                     is_inner: part.is_inner,
                     is_let: true,
-                })?;
+                });
             }
         }
         if let Some(start) = self.hash {

@@ -67,7 +67,7 @@ impl<'a> Run<'a> {
                 let mut line = String::new();
                 let path = shown_path(path)?;
                 put_shown(&mut line, Kind::Line, path.as_str())?;
-                line.try_push('\n')?;
+                line.push('\n');
                 write(rt, line.as_str())?;
             }
             Change::Write => {

@@ -62,8 +62,8 @@ fn value_error(rt: &crate::shim::host::HostRuntime, reason: &str) -> Result<u8, 
 /// Appends the ids of all kinds of faults, each in a line.
 fn put_ids(out: &mut String) -> Result<(), AllocError> {
     for rule in &RULES {
-        out.try_push_str(rule.id)?;
-        out.try_push_str("\n")?;
+        out.push_str(rule.id);
+        out.push_str("\n");
     }
     Ok(())
 }
@@ -104,12 +104,10 @@ fn shown_word(word: &str) -> Result<String, AllocError> {
 fn id_error(rt: &crate::shim::host::HostRuntime, wrong_id: &str) -> Result<u8, Error> {
     let id = shown_word(wrong_id)?;
     let reason = match similar_id(wrong_id)? {
-        Some(similar_id) => crate::shim::try_format!(
+        Some(similar_id) => ::alloc::format!(
             "no kind of fault has the id '{id}'\n\n  tip: a similar id exists: '{similar_id}'"
-        )?,
-        None => {
-            crate::shim::try_format!("no kind of fault has the id '{id}': --list-ids lists all")?
-        }
+        ),
+        None => ::alloc::format!("no kind of fault has the id '{id}': --list-ids lists all"),
     };
     value_error(rt, reason.as_str())
 }
@@ -199,10 +197,10 @@ fn files_status(
         Ok(table) => table,
         Err(Some(wrong_word)) => {
             let word = shown_word(wrong_word)?;
-            let reason = crate::shim::try_format!(
+            let reason = ::alloc::format!(
                 "invalid value '{word}' for '--macro <NAME:INDEX>': \
                 it is the name of a macro and a number, as in say:0"
-            )?;
+            );
             return value_error(rt, reason.as_str());
         }
         Err(None) => return Err(crate::shim::alloc::refused()),
@@ -248,7 +246,7 @@ fn words_error(
 ) -> Result<u8, Error> {
     let mut shown_words = Vec::new();
     for word in words {
-        shown_words.try_push(shown_word(word.as_str())?)?;
+        shown_words.push(shown_word(word.as_str())?);
     }
     match command()?.try_get_matches_from(shown_words.as_slice()) {
         Ok(_) => Err(error),

@@ -46,7 +46,7 @@ fn table_part<'a>(table: &Table<'a>, newline: bool) -> Result<Table<'a>, AllocEr
     for row in &table.rows {
         let name = row.name.as_bytes();
         if name != b"unreachable".as_slice() && appends_newline(name) == newline {
-            rows.try_push(*row)?;
+            rows.push(*row);
         }
     }
     Ok(Table { rows })
@@ -69,11 +69,11 @@ fn own_macros<'a>(text: &'a str, table: &Table<'_>) -> Result<OwnMacros<'a>, All
     for newline in [false, true] {
         let part = table_part(table, newline)?;
         for row in &own_rows(&source, &names, &part)? {
-            own.rows.try_push(*row)?;
-            own.macros.try_push(OwnMacro {
+            own.rows.push(*row);
+            own.macros.push(OwnMacro {
                 name: row.name,
                 appends_newline: newline,
-            })?;
+            });
         }
     }
     Ok(own)
@@ -106,7 +106,7 @@ fn has_word(text: &str, word: &str) -> bool {
 /// on, or `None` if it has no such macro.
 #[inline(never)]
 pub fn own_report(text: &str, options: &Options<'_>) -> Result<Option<Report>, AllocError> {
-    if !text.contains("macro_rules") || !has_word(text, "tt") {
+    if !text.has_text("macro_rules") || !has_word(text, "tt") {
         return Ok(None);
     }
     let OwnMacros { mut rows, macros } = own_macros(text, &options.table)?;
@@ -114,7 +114,7 @@ pub fn own_report(text: &str, options: &Options<'_>) -> Result<Option<Report>, A
         return Ok(None);
     }
     for row in &options.table.rows {
-        rows.try_push(*row)?;
+        rows.push(*row);
     }
     let own_options = Options {
         table: Table { rows },

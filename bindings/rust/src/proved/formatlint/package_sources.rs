@@ -96,11 +96,11 @@ fn put_entry(
 ) -> io::Result<()> {
     let name = entry.file_name();
     let kind = entry.file_type(rt)?;
-    let path = crate::shim::try_format!("{folder}/{name}")?;
+    let path = ::alloc::format!("{folder}/{name}");
     if kind.is_dir() && !is_left_out(name) {
-        folders.try_push(path)?;
+        folders.push(path);
     } else if kind.is_file() && name.ends_with(".rs") {
-        files.try_push(path)?;
+        files.push(path);
     }
     Ok(())
 }
@@ -202,7 +202,7 @@ impl PackageSources {
     ) -> Result<(), AllocError> {
         match read_text(rt, path) {
             Ok(text) if text.len() as u64 <= MOST => {
-                self.paths.insert_in(String::made_from(path)?)?;
+                self.paths.insert(String::from(path));
                 self.add_text(rt, text.as_str(), is_root)
             }
             Err(error) if is_no_source(&error) => Ok(()),
@@ -226,7 +226,7 @@ impl PackageSources {
         package_folder: &str,
     ) -> Result<(), AllocError> {
         let mut folders = Vec::new();
-        folders.try_push(String::made_from(package_folder)?)?;
+        folders.push(String::from(package_folder));
         for _ in 0..u64::MAX {
             let Some(folder) = folders.pop() else {
                 break;
@@ -274,7 +274,7 @@ impl PackageSources {
         if renames(package) {
             self.add_name(rt, RENAMED_OWNER)?;
         }
-        self.folder = String::made_from(folder)?;
+        self.folder = String::from(folder);
         Ok(())
     }
 

@@ -74,7 +74,7 @@ pub fn text_of(bytes: &[u8]) -> FileText<'_> {
 
 /// Reads a stream up to its end or the most bytes that are read.
 pub fn read_all<R: Read>(rt: &crate::shim::host::HostRuntime, stream: R) -> io::Result<Vec<u8>> {
-    let mut bytes = Vec::made_for(ROOM)?;
+    let mut bytes = Vec::with_capacity(ROOM);
     stream.take(MOST as u64 + 1).read_to_end(&mut bytes)?;
     Ok(bytes)
 }

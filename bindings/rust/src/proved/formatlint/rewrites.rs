@@ -136,7 +136,7 @@ fn may_hide_name(front: &str) -> bool {
     match front.rsplit_once('\n') {
         Some((_, indent)) if indent.trim_end().is_empty() => {
             let (_, line) = trimmed.rsplit_once('\n').unwrap_or(("", trimmed));
-            line.contains("//")
+            line.has_text("//")
         }
         _ => false,
     }

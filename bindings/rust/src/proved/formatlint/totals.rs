@@ -80,17 +80,17 @@ fn put_step(out: &mut String, path: &str, failure: &StepFailure) -> Result<(), A
         LeftText::Part => "not written whole",
     };
     let step = failure.step;
-    let mut reason = crate::shim::try_format!("{state}: {step}")?;
+    let mut reason = ::alloc::format!("{state}: {step}");
     if let Some(error) = &failure.error {
-        let words = crate::shim::try_format!("{error}")?;
-        reason.try_push_str(": ")?;
-        reason.try_push_str(system_words(words.as_str()))?;
+        let words = ::alloc::format!("{error}");
+        reason.push_str(": ");
+        reason.push_str(system_words(words.as_str()));
     }
     if let Some(old_path) = &failure.old_path {
-        reason.try_push_str("; its old text is in ")?;
-        reason.try_push_str(shown_path(old_path.as_str())?.as_str())?;
+        reason.push_str("; its old text is in ");
+        reason.push_str(shown_path(old_path.as_str())?.as_str());
     } else if failure.left == LeftText::Part {
-        reason.try_push_str("; its old text is lost")?;
+        reason.push_str("; its old text is lost");
     }
     let path = shown_path(path)?;
     put_failure(out, path.as_str(), RunFault::Write, reason.as_str())

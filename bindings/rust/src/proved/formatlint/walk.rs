@@ -36,11 +36,11 @@ pub struct Walk<'a> {
 /// Returns the path of a name in a folder. An empty path is that of the current folder.
 #[inline(never)]
 fn join(folder: &str, name: &str) -> Result<String, AllocError> {
-    let mut path = String::made_from(folder)?;
+    let mut path = String::from(folder);
     if !folder.is_empty() && !folder.ends_with('/') {
-        path.try_push('/')?;
+        path.push('/');
     }
-    path.try_push_str(name)?;
+    path.push_str(name);
     Ok(path)
 }
 
@@ -69,10 +69,10 @@ impl<'a> Walk<'a> {
         excluded_names: &'a [&'a str],
     ) -> Result<Walk<'a>, AllocError> {
         let mut rest = Vec::new();
-        rest.try_push(Entry {
-            path: String::made_from(folder)?,
+        rest.push(Entry {
+            path: String::from(folder),
             is_folder: true,
-        })?;
+        });
         let real_folder = match fs::open(rt, shown_folder(folder)) {
             Ok(file) => path_of(rt, &file).ok(),
             Err(_) => None,
@@ -136,7 +136,7 @@ impl<'a> Walk<'a> {
         let path = join(folder, name)?;
         match old_name {
             Some(old_name) => totals.show_old_text(rt, path.as_str(), old_name),
-            None => entries.try_push(Entry { path, is_folder })?,
+            None => entries.push(Entry { path, is_folder }),
         }
         Ok(())
     }
@@ -157,7 +157,7 @@ impl<'a> Walk<'a> {
                 totals.fail(rt, path, &error);
             }
         }
-        entries.sort_in()?;
+        entries.sort();
         entries.reverse();
         Ok(entries)
     }
@@ -178,7 +178,7 @@ impl<'a> Walk<'a> {
                 return Ok(Some(entry.path));
             }
             match self.entries(rt, entry.path.as_str(), totals) {
-                Ok(mut entries) => self.rest.try_append(&mut entries)?,
+                Ok(mut entries) => self.rest.append(&mut entries),
                 Err(error) => totals.fail(rt, entry.path.as_str(), &error),
             }
         }

@@ -19,7 +19,7 @@ fn words(rt: &crate::shim::host::HostRuntime) -> Result<Vec<String>, RunFault> {
         Err(_) => return Err(RunFault::Words),
     };
     let _name = words.next();
-    Ok(words.collect_in()?)
+    Ok(words.collect())
 }
 
 /// Runs the program with its command-line arguments, standard input and standard output. Returns

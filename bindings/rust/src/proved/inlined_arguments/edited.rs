@@ -11,7 +11,7 @@ use crate::shim::prelude::*;
 /// overlap.
 #[inline(never)]
 fn edited_bytes(bytes: &[u8], edits: &[Edit]) -> Result<Option<Vec<u8>>, AllocError> {
-    let mut out = Vec::made_for(bytes.len())?;
+    let mut out = Vec::with_capacity(bytes.len());
     let mut at = 0;
     for edit in edits {
         if edit.span.start < at || edit.span.end < edit.span.start {
@@ -20,11 +20,11 @@ fn edited_bytes(bytes: &[u8], edits: &[Edit]) -> Result<Option<Vec<u8>>, AllocEr
         if bytes.len() < edit.span.end {
             return Ok(None);
         }
-        out.try_extend_from_slice(&bytes[at..edit.span.start])?;
-        out.try_extend_from_slice(edit.text.as_bytes())?;
+        out.extend_from_slice(&bytes[at..edit.span.start]);
+        out.extend_from_slice(edit.text.as_bytes());
         at = edit.span.end;
     }
-    out.try_extend_from_slice(&bytes[at..])?;
+    out.extend_from_slice(&bytes[at..]);
     Ok(Some(out))
 }
 

@@ -47,7 +47,7 @@ fn count_reference<'a>(count: &Count<'a>) -> Reference<'a> {
 /// Returns a name as a text of its own.
 #[inline]
 fn name_text(name: &str) -> Result<String, AllocError> {
-    Ok(String::made_from(name)?)
+    Ok(String::from(name))
 }
 
 /// Returns the new text of a reference to this value, or `None` if it stays as it is: a name that
@@ -67,7 +67,7 @@ fn new_text(reference: Reference<'_>, value: Value<'_>) -> Result<Option<String>
                 return Ok(None);
             }
             let mut digits = Buffer::new();
-            Ok(Some(String::made_from(digits.format(index))?))
+            Ok(Some(String::from(digits.format(index))))
         }
         _ => Ok(None),
     }
@@ -80,10 +80,10 @@ fn push_edit(
     text: Option<String>,
 ) -> Result<(), AllocError> {
     if let Some(text) = text {
-        edits.try_push(Edit {
+        edits.push(Edit {
             span: span.start..span.end,
             text,
-        })?;
+        });
     }
     Ok(())
 }
@@ -115,7 +115,7 @@ fn count_text(
         return Ok(None);
     };
     match new_text(reference, value)? {
-        Some(text) => Ok(Some(crate::shim::try_format!("{dot}{text}$")?)),
+        Some(text) => Ok(Some(::alloc::format!("{dot}{text}$"))),
         None => Ok(None),
     }
 }

@@ -20,7 +20,7 @@ use crate::shim::prelude::*;
 /// Adds the newline that a macro appends, if it does.
 fn put_newline(text: &mut String, appends_newline: bool) -> Result<(), AllocError> {
     if appends_newline {
-        text.try_push('\n')?;
+        text.push('\n');
         return Ok(());
     }
     Ok(())

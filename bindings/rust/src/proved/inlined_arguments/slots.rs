@@ -48,10 +48,10 @@ pub(crate) fn slots<'a>(arguments: &[Argument<'a>]) -> Result<Vec<Slot<'a>>, All
     let mut kept_count = 0;
     for argument in arguments {
         let value = slot_value(argument, kept_count);
-        slots.try_push(Slot {
+        slots.push(Slot {
             name: argument.name,
             value,
-        })?;
+        });
         if is_expression(value) {
             kept_count += 1;
         }
@@ -64,7 +64,7 @@ pub(crate) fn expression_slots<'a>(slots: &[Slot<'a>]) -> Result<Vec<Slot<'a>>, 
     let mut list = Vec::new();
     for slot in slots {
         if is_expression(slot.value) {
-            list.try_push(*slot)?;
+            list.push(*slot);
         }
     }
     Ok(list)
@@ -75,10 +75,10 @@ pub(crate) fn expression_slots<'a>(slots: &[Slot<'a>]) -> Result<Vec<Slot<'a>>, 
 pub(crate) fn givens<'a>(slots: &[Slot<'a>]) -> Result<Vec<FormatArgument<'a>>, AllocError> {
     let mut arguments = Vec::new();
     for slot in slots {
-        arguments.try_push(FormatArgument {
+        arguments.push(FormatArgument {
             name: slot.name,
             variable: None,
-        })?;
+        });
     }
     Ok(arguments)
 }

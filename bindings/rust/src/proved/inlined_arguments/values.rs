@@ -6,7 +6,6 @@
 use crate::proved::inlined_arguments::slots::{Slot, Value};
 use crate::proved::rustc_parse_format::{Count, Position};
 use crate::shim::alloc::AllocError;
-use crate::shim::prelude::*;
 use alloc::collections::BTreeMap;
 
 /// A width or a precision.
@@ -41,7 +40,7 @@ fn insert<'a>(
     name: &'a str,
     value: Value<'a>,
 ) -> Result<(), AllocError> {
-    named_values.insert_in(name, value)?;
+    named_values.insert(name, value);
     Ok(())
 }
 

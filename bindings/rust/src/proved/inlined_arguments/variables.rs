@@ -105,7 +105,7 @@ pub(crate) fn variable_indices(arguments: &[Argument<'_>]) -> Result<Vec<usize>,
     let mut removed_indices = Vec::new();
     for (index, argument) in arguments.iter().enumerate() {
         if is_variable(argument) {
-            removed_indices.try_push(index)?;
+            removed_indices.push(index);
         }
     }
     Ok(removed_indices)

@@ -164,13 +164,13 @@ pub fn task_of<'a>(
 #[inline(never)]
 pub fn list_words(matches: &ArgMatches<'_>) -> Result<Vec<String>, AllocError> {
     let mut words = Vec::new();
-    words.try_push(String::made_from(mode_word(matches))?)?;
+    words.push(String::from(mode_word(matches)));
     if !matches.get_flag("text") {
-        words.try_push(String::made_from("--literal")?)?;
+        words.push(String::from("--literal"));
     }
     if let Some(list) = matches.get_str("args") {
-        words.try_push(String::made_from("--args")?)?;
-        words.try_push(String::made_from(list)?)?;
+        words.push(String::from("--args"));
+        words.push(String::from(list));
     }
     Ok(words)
 }

@@ -105,9 +105,7 @@ fn path_beside(rt: &crate::shim::host::HostRuntime, path: &str) -> io::Result<St
     let most = MOST_NAME.saturating_sub(MARK.len() + DIGITS + 1);
     let (plain, _) = name.split_once('\0').unwrap_or((name, ""));
     let front = plain.get(..plain.boundary_at_most(most)).unwrap_or("");
-    Ok(crate::shim::try_format!(
-        "{folder}/.{front}{MARK}{number:016x}"
-    )?)
+    Ok(::alloc::format!("{folder}/.{front}{MARK}{number:016x}"))
 }
 
 /// Writes the whole text of a file, and waits until it is on the disk.
@@ -201,7 +199,7 @@ fn has_bytes(rt: &crate::shim::host::HostRuntime, file: &File, bytes: &[u8]) -> 
     if file.metadata()?.len() != bytes.len() as u64 {
         return Ok(false);
     }
-    let mut buffer = crate::shim::try_vec![0u8; bytes.len()]?;
+    let mut buffer = ::alloc::vec![0u8; bytes.len()];
     file.read_exact_at(buffer.as_mut_slice(), 0)?;
     Ok(buffer.as_slice() == bytes)
 }

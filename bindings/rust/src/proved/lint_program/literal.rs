@@ -58,7 +58,7 @@ fn without_returns(matches: &ArgMatches<'_>, file: Vec<u8>) -> Result<Vec<u8>, A
     let mut bytes = Vec::new();
     for (index, byte) in file.iter().enumerate() {
         if *byte != b'\r' || file.get(index.saturating_add(1)) != Some(&b'\n') {
-            bytes.try_push(*byte)?;
+            bytes.push(*byte);
         }
     }
     Ok(bytes)
@@ -196,7 +196,7 @@ fn put_reason(
         }
     }
     let words = match &failure.error {
-        Some(error) => crate::shim::try_format!("{error}")?,
+        Some(error) => ::alloc::format!("{error}"),
         None => String::new(),
     };
     put_failure(out, path, failure.fault, system_words(words.as_str()))

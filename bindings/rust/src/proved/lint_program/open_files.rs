@@ -17,7 +17,7 @@ pub fn is_same(one: &Metadata, other: &Metadata) -> bool {
 /// whatever was renamed since it was opened. Returns `Err` if the system does not say it.
 pub fn path_of(rt: &crate::shim::host::HostRuntime, file: &File) -> io::Result<String> {
     let number = file.as_raw_fd();
-    let link = crate::shim::try_format!("/proc/self/fd/{number}")?;
+    let link = ::alloc::format!("/proc/self/fd/{number}");
     fs::read_link(rt, link.as_str())
 }
 

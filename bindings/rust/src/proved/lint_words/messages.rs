@@ -22,9 +22,9 @@ pub fn system_words(text: &str) -> &str {
 
 /// Appends the start of a line: the name of the program and the path.
 fn put_opening(out: &mut String, path: &str) -> Result<(), AllocError> {
-    out.try_push_str("formatlint: ")?;
+    out.push_str("formatlint: ");
     put_shown(out, Kind::Line, path)?;
-    out.try_push_str(":")?;
+    out.push_str(":");
     Ok(())
 }
 
@@ -54,23 +54,23 @@ pub fn put_failure(
     words: &str,
 ) -> Result<(), AllocError> {
     put_opening(out, path)?;
-    out.try_push_str(" ")?;
+    out.push_str(" ");
     put_shown(out, Kind::Line, reason(fault, words))?;
-    out.try_push_str("\n")?;
+    out.push_str("\n");
     Ok(())
 }
 
 /// Appends a number in decimal digits.
 fn put_number(out: &mut String, number: usize) -> Result<(), AllocError> {
     let mut buffer = Buffer::new();
-    out.try_push_str(buffer.format(number))?;
+    out.push_str(buffer.format(number));
     Ok(())
 }
 
 /// Appends a place: the line, a colon and the column.
 fn put_place(out: &mut String, place: Place) -> Result<(), AllocError> {
     put_number(out, place.line)?;
-    out.try_push_str(":")?;
+    out.push_str(":");
     put_number(out, place.column)?;
     Ok(())
 }
@@ -86,9 +86,9 @@ pub fn put_not_literal(
 ) -> Result<(), AllocError> {
     put_opening(out, path)?;
     put_place(out, place_at(file, fault.offset))?;
-    out.try_push_str(": ")?;
+    out.push_str(": ");
     fault.kind.put_message(out)?;
-    out.try_push_str("\n  = help: with --text the input is read as it stands\n")?;
+    out.push_str("\n  = help: with --text the input is read as it stands\n");
     Ok(())
 }
 
@@ -102,8 +102,8 @@ pub fn put_place_failure(
 ) -> Result<(), AllocError> {
     put_opening(out, path)?;
     put_place(out, place)?;
-    out.try_push_str(": ")?;
+    out.push_str(": ");
     put_shown(out, Kind::Line, words)?;
-    out.try_push_str("\n")?;
+    out.push_str("\n");
     Ok(())
 }

@@ -22,7 +22,7 @@ pub fn begin_line(out: &mut Vec<u8>) -> Writer {
 /// Ends the line of a writer, and moves it back into the text.
 pub fn end_line(out: &mut Vec<u8>, writer: Writer) -> Result<(), AllocError> {
     *out = writer.into_inner();
-    out.try_push(b'\n')?;
+    out.push(b'\n');
     Ok(())
 }
 

@@ -27,7 +27,7 @@ pub struct Listing {
 /// Returns a copy of a literal, if there is one.
 fn snippet_of(literal: Option<&str>) -> Result<Option<String>, AllocError> {
     match literal {
-        Some(text) => Ok(Some(String::made_from(text)?)),
+        Some(text) => Ok(Some(String::from(text))),
         None => Ok(None),
     }
 }

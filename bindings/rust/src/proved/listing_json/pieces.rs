@@ -60,7 +60,7 @@ fn put_count(writer: &mut Writer, name: &str, count: &Count<'_>) -> Result<(), A
 /// Appends a character as a string.
 fn put_char(writer: &mut Writer, c: char) -> Result<(), AllocError> {
     let mut text = String::new();
-    text.try_push(c)?;
+    text.push(c);
     writer.string(text.as_str())?;
     Ok(())
 }

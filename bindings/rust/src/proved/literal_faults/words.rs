@@ -68,14 +68,14 @@ fn named_character(kind: FaultKind) -> Option<char> {
 #[inline(never)]
 fn put_shown_character(out: &mut String, c: char) -> Result<(), AllocError> {
     match c {
-        ' '..='~' => out.try_push(c)?,
-        '\t' => out.try_push_str("\\t")?,
-        '\r' => out.try_push_str("\\r")?,
-        '\n' => out.try_push_str("\\n")?,
+        ' '..='~' => out.push(c),
+        '\t' => out.push_str("\\t"),
+        '\r' => out.push_str("\\r"),
+        '\n' => out.push_str("\\n"),
         _ => {
             let code = u32::from(c);
-            let escape = crate::shim::try_format!("\\u{{{code:x}}}")?;
-            out.try_push_str(&escape)?;
+            let escape = ::alloc::format!("\\u{{{code:x}}}");
+            out.push_str(&escape);
         }
     }
     Ok(())
@@ -86,11 +86,11 @@ impl FaultKind {
     /// character.
     #[inline(never)]
     pub(crate) fn put_message(&self, out: &mut String) -> Result<(), AllocError> {
-        out.try_push_str(title(*self))?;
+        out.push_str(title(*self));
         if let Some(c) = named_character(*self) {
-            out.try_push_str(": `")?;
+            out.push_str(": `");
             put_shown_character(out, c)?;
-            out.try_push_str("`")?;
+            out.push_str("`");
         }
         Ok(())
     }

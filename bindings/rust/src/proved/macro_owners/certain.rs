@@ -147,7 +147,7 @@ fn meant_rows<'a>(
     let mut list = Vec::new();
     for row in rows {
         if is_meant(package_facts, file_facts, row, certainly) {
-            list.try_push(*row)?;
+            list.push(*row);
         }
     }
     Ok(list)

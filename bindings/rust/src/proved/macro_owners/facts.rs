@@ -10,7 +10,6 @@ use crate::proved::macro_owners::names::{
 use crate::proved::macro_owners::words::{is_mark, is_named, is_notable, word_of};
 use crate::proved::rust_trees::{Token, Tokens};
 use crate::shim::alloc::AllocError;
-use crate::shim::prelude::*;
 use alloc::collections::BTreeSet;
 
 /// What the files of a package say about names of macros.
@@ -223,7 +222,7 @@ fn spoiled_name<'a>(context: Context<'a>, token: Token<'a>) -> &'a [u8] {
 /// Adds a name to a set if facts are kept about it.
 fn put(names: &mut BTreeSet<&'static [u8]>, word: &[u8]) -> Result<(), AllocError> {
     if let Some(name) = kept_name(word) {
-        names.insert_in(name)?;
+        names.insert(name);
     }
     Ok(())
 }

@@ -28,9 +28,9 @@ pub struct Dependency {
 /// Returns the name of a crate in the sources.
 #[inline(never)]
 fn source_name(name: &str) -> Result<String, AllocError> {
-    let mut out = String::made_for(name.len())?;
+    let mut out = String::with_capacity(name.len());
     for c in name.chars() {
-        out.try_push(if c == '-' { '_' } else { c })?;
+        out.push(if c == '-' { '_' } else { c });
     }
     Ok(out)
 }
@@ -56,10 +56,10 @@ fn add(
         if let Some(Value::Table(members)) = value.get(table) {
             for (name, value) in members {
                 let package = package_name(name.as_str(), value, workspace);
-                found.try_push(Dependency {
+                found.push(Dependency {
                     name: source_name(name.as_str())?,
-                    package: String::made_from(package.unwrap_or(name.as_str()))?,
-                })?;
+                    package: String::from(package.unwrap_or(name.as_str())),
+                });
             }
         }
     }

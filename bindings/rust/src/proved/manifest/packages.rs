@@ -217,7 +217,7 @@ impl Packages {
         let Some(manifest) = self.manifests.get(manifest) else {
             return Ok(rules);
         };
-        let path = crate::shim::try_format!("{}/{name}", last.whole_path)?;
+        let path = ::alloc::format!("{}/{name}", last.whole_path);
         let file = path.as_str().strip_prefix(package.folder.as_str());
         let file = file.unwrap_or("").strip_prefix('/').unwrap_or("");
         if let Some(edition) = target_edition(manifest, file, rules.edition) {
@@ -230,7 +230,7 @@ impl Packages {
     /// empty path is that of the current folder. Returns an error if an allocation fails.
     #[inline(never)]
     pub fn enter(&mut self, rt: &crate::shim::host::HostRuntime, folder: &str) -> io::Result<()> {
-        let path = String::made_from(folder.strip_suffix('/').unwrap_or(folder))?;
+        let path = String::from(folder.strip_suffix('/').unwrap_or(folder));
         let given = if folder.is_empty() { "." } else { folder };
         self.walked = match fs::canonicalize(rt, given) {
             Ok(whole_path) => Some(WalkedFolder { path, whole_path }),
@@ -253,14 +253,14 @@ impl Packages {
             let rest = folder.strip_prefix(walked.path.as_str()).unwrap_or(folder);
             let rest = rest.strip_prefix('/').unwrap_or(rest);
             if rest.is_empty() || rest == "." {
-                return Ok(String::made_from(whole_path)?);
+                return Ok(String::from(whole_path));
             }
             let whole_path = whole_path.strip_suffix('/').unwrap_or(whole_path);
-            return Ok(crate::shim::try_format!("{whole_path}/{rest}")?);
+            return Ok(::alloc::format!("{whole_path}/{rest}"));
         }
         match fs::canonicalize(rt, folder) {
             Ok(whole_path) => Ok(whole_path),
-            Err(_) => Ok(String::made_from("/")?),
+            Err(_) => Ok(String::from("/")),
         }
     }
 
@@ -283,7 +283,7 @@ impl Packages {
             let path = whole_path.as_str();
             let known = self.folder_at(rt, path.strip_suffix('/').unwrap_or(path))?;
             self.last_folder = Some(LastFolder {
-                path: String::made_from(folder)?,
+                path: String::from(folder),
                 whole_path,
                 folder: known,
             });

@@ -29,7 +29,7 @@ pub struct Message<'a, 's, 'p> {
 fn owned_string(text: Option<&str>) -> Result<Option<String>, AllocError> {
     match text {
         None => Ok(None),
-        Some(text) => Ok(Some(String::made_from(text)?)),
+        Some(text) => Ok(Some(String::from(text))),
     }
 }
 
@@ -44,7 +44,7 @@ fn fault_of<'a>(message: Message<'a, '_, '_>) -> Result<Option<Fault<'a>>, Alloc
 /// Puts a name into a set.
 #[inline]
 fn insert<'a>(names: &mut BTreeSet<&'a str>, name: &'a str) -> Result<(), AllocError> {
-    names.insert_in(name)?;
+    names.insert(name);
     Ok(())
 }
 
@@ -87,9 +87,9 @@ fn push_specifier<'a>(
     span: &Option<Range<usize>>,
 ) -> Result<(), AllocError> {
     if let Some(span) = span {
-        faults.try_push(MessageFault::Specifier {
+        faults.push(MessageFault::Specifier {
             spot: spot_of(is_known, span),
-        })?;
+        });
     }
     Ok(())
 }
@@ -104,7 +104,7 @@ fn push_name<'a>(
 ) -> Result<(), AllocError> {
     if let Some(names) = names {
         if !is_self(name) && !has_name(names, name) {
-            faults.try_push(MessageFault::MissingParameter { spot, name })?;
+            faults.push(MessageFault::MissingParameter { spot, name });
         }
     }
     Ok(())
@@ -123,7 +123,7 @@ fn push_placeholder<'a>(
     match argument.position {
         Position::ArgumentNamed(name) => push_name(faults, names, spot, name)?,
         Position::ArgumentIs(_) | Position::ArgumentImplicitlyIs(_) => {
-            faults.try_push(MessageFault::Positional { spot })?;
+            faults.push(MessageFault::Positional { spot });
         }
     }
     Ok(())
@@ -174,7 +174,7 @@ fn push_placeholders<'a>(
 fn faults_of<'a>(message: Message<'a, '_, '_>) -> Result<Vec<MessageFault<'a>>, AllocError> {
     let mut faults = Vec::new();
     match fault_of(message)? {
-        Some(fault) => faults.try_push(MessageFault::Text(fault))?,
+        Some(fault) => faults.push(MessageFault::Text(fault)),
         None => push_placeholders(&mut faults, message)?,
     }
     Ok(faults)

@@ -56,7 +56,7 @@ fn at_spot(id: Id, title: String, help: &str, spot: Spot) -> Result<Diagnostic<S
 /// Returns the title of a name that is that of no parameter of a trait.
 #[inline]
 fn parameter_title(name: &str, trait_name: &str) -> Result<String, AllocError> {
-    let title = crate::shim::try_format!("there is no parameter `{name}` on trait `{trait_name}`")?;
+    let title = ::alloc::format!("there is no parameter `{name}` on trait `{trait_name}`");
     Ok(title)
 }
 
@@ -67,11 +67,11 @@ impl<'a> MessageFault<'a> {
         match self {
             MessageFault::Text(fault) => text_diagnostic(fault),
             MessageFault::Specifier { spot } => {
-                let title = String::made_from(SPECIFIER_TITLE)?;
+                let title = String::from(SPECIFIER_TITLE);
                 at_spot(Id::SpecifierInMessage, title, SPECIFIER_HELP, *spot)
             }
             MessageFault::Positional { spot } => {
-                let title = String::made_from(POSITIONAL_TITLE)?;
+                let title = String::from(POSITIONAL_TITLE);
                 at_spot(Id::PositionalInMessage, title, POSITIONAL_HELP, *spot)
             }
             MessageFault::MissingParameter { spot, name } => {

@@ -12,7 +12,7 @@ use crate::shim::prelude::*;
 /// Adds a number in decimal digits.
 pub fn put_number(out: &mut String, number: usize) -> Result<(), AllocError> {
     let mut digits = Buffer::new();
-    out.try_push_str(digits.format(number))?;
+    out.push_str(digits.format(number));
     Ok(())
 }
 
@@ -27,9 +27,9 @@ fn upper_digit(digit: u8) -> char {
 
 /// Adds a text as a string of JSON.
 pub fn put_quoted(out: &mut String, text: &str) -> Result<(), AllocError> {
-    out.try_push_str("\"")?;
+    out.push_str("\"");
     put_shown(out, Kind::Json, text)?;
-    out.try_push_str("\"")?;
+    out.push_str("\"");
     Ok(())
 }
 
@@ -42,11 +42,11 @@ fn stays_in_uri(byte: u8) -> bool {
 #[inline(never)]
 fn put_uri_byte(out: &mut String, byte: u8) -> Result<(), AllocError> {
     if stays_in_uri(byte) {
-        return Ok(out.try_push(byte as char)?);
+        return Ok(out.push(byte as char));
     }
-    out.try_push('%')?;
-    out.try_push(upper_digit(byte / 16))?;
-    out.try_push(upper_digit(byte % 16))?;
+    out.push('%');
+    out.push(upper_digit(byte / 16));
+    out.push(upper_digit(byte % 16));
     Ok(())
 }
 
@@ -54,7 +54,7 @@ fn put_uri_byte(out: &mut String, byte: u8) -> Result<(), AllocError> {
 #[inline(never)]
 pub fn put_uri(out: &mut String, path: &str) -> Result<(), AllocError> {
     if path.starts_with('/') {
-        out.try_push_str("file://")?;
+        out.push_str("file://");
     }
     for byte in &path_bytes(path)? {
         put_uri_byte(out, *byte)?;

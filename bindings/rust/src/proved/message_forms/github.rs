@@ -11,7 +11,7 @@ use crate::shim::prelude::*;
 
 /// Appends a property with a number.
 fn put_property(out: &mut String, opening: &str, number: usize) -> Result<(), AllocError> {
-    out.try_push_str(opening)?;
+    out.push_str(opening);
     put_number(out, number)?;
     Ok(())
 }
@@ -34,15 +34,15 @@ fn put_places(out: &mut String, span: &Span<'_>) -> Result<(), AllocError> {
 /// `::LEVEL file=PATH,line=LINE,col=COLUMN,endColumn=COLUMN::TITLE [ID]`.
 #[inline(never)]
 pub fn put_github(out: &mut String, message: &Message<'_>) -> Result<(), AllocError> {
-    out.try_push_str("::")?;
-    out.try_push_str(level_name(message.level))?;
-    out.try_push_str(" file=")?;
+    out.push_str("::");
+    out.push_str(level_name(message.level));
+    out.push_str(" file=");
     put_shown(out, Kind::Property, message.path)?;
     put_places(out, &message.primary)?;
-    out.try_push_str("::")?;
+    out.push_str("::");
     put_shown(out, Kind::Message, message.title)?;
-    out.try_push_str(" [")?;
+    out.push_str(" [");
     put_shown(out, Kind::Message, message.id)?;
-    out.try_push_str("]\n")?;
+    out.push_str("]\n");
     Ok(())
 }

@@ -55,28 +55,28 @@ fn put_lines(
     to: usize,
     line_count: usize,
 ) -> Result<(), AllocError> {
-    out.try_push_str("[")?;
+    out.push_str("[");
     let mut rest = lines;
     let mut start = from;
     let mut countdown = line_count;
     while countdown > 0 {
         let (line, tail) = split_line(rest);
         put_line(out, line, start, length_of(line) + 1)?;
-        out.try_push_str(",")?;
+        out.push_str(",");
         rest = tail;
         start = 1;
         countdown -= 1;
     }
     let (line, _) = split_line(rest);
     put_line(out, line, start, to)?;
-    out.try_push_str("]")?;
+    out.push_str("]");
     Ok(())
 }
 
 /// Adds an array without items.
 #[inline]
 fn put_empty_array(out: &mut String) -> Result<(), AllocError> {
-    out.try_push_str("[]")?;
+    out.push_str("[]");
     Ok(())
 }
 
@@ -147,14 +147,14 @@ fn put_span(out: &mut String, path: &str, span: &Span<'_>) -> Result<(), AllocEr
 /// Adds spans.
 #[inline(never)]
 fn put_spans(out: &mut String, path: &str, spans: &[Span<'_>]) -> Result<(), AllocError> {
-    out.try_push_str("[")?;
+    out.push_str("[");
     let mut is_later = false;
     for span in spans {
         put_comma(out, is_later)?;
         put_span(out, path, span)?;
         is_later = true;
     }
-    out.try_push_str("]")?;
+    out.push_str("]");
     Ok(())
 }
 
@@ -180,14 +180,14 @@ fn put_children(
     path: &str,
     children: &[Child<'_, '_>],
 ) -> Result<(), AllocError> {
-    out.try_push_str("[")?;
+    out.push_str("[");
     let mut is_later = false;
     for child in children {
         put_comma(out, is_later)?;
         put_child(out, path, child)?;
         is_later = true;
     }
-    out.try_push_str("]")?;
+    out.push_str("]");
     Ok(())
 }
 
@@ -234,6 +234,6 @@ pub fn put_json(
     put_code(out, message.id)?;
     put_text(out, true, "level", level_name(message.level))?;
     put_below(out, message.path, spans, children, rendered)?;
-    out.try_push_str("\n")?;
+    out.push_str("\n");
     Ok(())
 }

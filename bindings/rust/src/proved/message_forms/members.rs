@@ -21,16 +21,16 @@ fn opening(is_later: bool) -> &'static str {
 
 /// Adds the key of a member.
 pub fn put_key(out: &mut String, is_later: bool, key: &str) -> Result<(), AllocError> {
-    out.try_push_str(opening(is_later))?;
+    out.push_str(opening(is_later));
     put_quoted(out, key)?;
-    out.try_push_str(":")?;
+    out.push_str(":");
     Ok(())
 }
 
 /// Adds the end of an object that has members.
 #[inline]
 pub fn put_end(out: &mut String) -> Result<(), AllocError> {
-    out.try_push_str("}")?;
+    out.push_str("}");
     Ok(())
 }
 
@@ -45,7 +45,7 @@ fn put_string(out: &mut String, text: &str) -> Result<(), AllocError> {
 fn put_string_or_null(out: &mut String, text: Option<&str>) -> Result<(), AllocError> {
     match text {
         Some(text) => put_quoted(out, text)?,
-        None => out.try_push_str("null")?,
+        None => out.push_str("null"),
     }
     Ok(())
 }
@@ -59,7 +59,7 @@ fn put_digits(out: &mut String, number: usize) -> Result<(), AllocError> {
 
 /// Adds a truth value.
 fn put_bool(out: &mut String, value: bool) -> Result<(), AllocError> {
-    out.try_push_str(if value { "true" } else { "false" })?;
+    out.push_str(if value { "true" } else { "false" });
     Ok(())
 }
 
@@ -105,7 +105,7 @@ pub fn put_truth(
 #[inline]
 pub fn put_comma(out: &mut String, is_later: bool) -> Result<(), AllocError> {
     if is_later {
-        out.try_push_str(",")?;
+        out.push_str(",");
     }
     Ok(())
 }

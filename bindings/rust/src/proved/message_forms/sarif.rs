@@ -73,9 +73,9 @@ fn put_location(out: &mut String, path: &str, span: &Span<'_>) -> Result<(), All
 
 /// Adds a range of a file as the only location.
 fn put_locations(out: &mut String, path: &str, span: &Span<'_>) -> Result<(), AllocError> {
-    out.try_push_str("[")?;
+    out.push_str("[");
     put_location(out, path, span)?;
-    out.try_push_str("]")?;
+    out.push_str("]");
     Ok(())
 }
 
@@ -125,14 +125,14 @@ fn put_rule(out: &mut String, rule: &Rule) -> Result<(), AllocError> {
 /// Adds rules.
 #[inline(never)]
 fn put_rules(out: &mut String, rules: &[Rule]) -> Result<(), AllocError> {
-    out.try_push_str("[")?;
+    out.push_str("[");
     let mut is_later = false;
     for rule in rules {
         put_comma(out, is_later)?;
         put_rule(out, rule)?;
         is_later = true;
     }
-    out.try_push_str("]")?;
+    out.push_str("]");
     Ok(())
 }
 
@@ -162,7 +162,7 @@ fn put_run_start(out: &mut String, version: &str, rules: &[Rule]) -> Result<(), 
     put_tool(out, version, rules)?;
     put_text(out, true, "columnKind", "unicodeCodePoints")?;
     put_key(out, true, "results")?;
-    out.try_push_str("[")?;
+    out.push_str("[");
     Ok(())
 }
 
@@ -178,7 +178,7 @@ pub fn put_sarif_start(out: &mut String, version: &str, rules: &[Rule]) -> Resul
     )?;
     put_text(out, true, "version", "2.1.0")?;
     put_key(out, true, "runs")?;
-    out.try_push_str("[")?;
+    out.push_str("[");
     put_run_start(out, version, rules)?;
     Ok(())
 }
@@ -192,9 +192,9 @@ fn put_invocation(out: &mut String, is_whole: bool) -> Result<(), AllocError> {
 
 /// Adds the only invocation: whether the program could read all files.
 fn put_invocations(out: &mut String, is_whole: bool) -> Result<(), AllocError> {
-    out.try_push_str("[")?;
+    out.push_str("[");
     put_invocation(out, is_whole)?;
-    out.try_push_str("]")?;
+    out.push_str("]");
     Ok(())
 }
 
@@ -202,12 +202,12 @@ fn put_invocations(out: &mut String, is_whole: bool) -> Result<(), AllocError> {
 /// files (`is_whole`), and a line end.
 #[inline(never)]
 pub fn put_sarif_end(out: &mut String, is_whole: bool) -> Result<(), AllocError> {
-    out.try_push_str("]")?;
+    out.push_str("]");
     put_key(out, true, "invocations")?;
     put_invocations(out, is_whole)?;
     put_end(out)?;
-    out.try_push_str("]")?;
+    out.push_str("]");
     put_end(out)?;
-    out.try_push_str("\n")?;
+    out.push_str("\n");
     Ok(())
 }

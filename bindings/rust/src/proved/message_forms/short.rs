@@ -13,7 +13,7 @@ use crate::shim::prelude::*;
 /// Appends a place: the line, a colon and the column.
 fn put_place(out: &mut String, place: Place) -> Result<(), AllocError> {
     put_number(out, place.line)?;
-    out.try_push_str(":")?;
+    out.push_str(":");
     put_number(out, place.column)?;
     Ok(())
 }
@@ -22,14 +22,14 @@ fn put_place(out: &mut String, place: Place) -> Result<(), AllocError> {
 #[inline(never)]
 pub fn put_short(out: &mut String, message: &Message<'_>) -> Result<(), AllocError> {
     put_shown(out, Kind::Line, message.path)?;
-    out.try_push_str(":")?;
+    out.push_str(":");
     put_place(out, message.primary.start)?;
-    out.try_push_str(": ")?;
-    out.try_push_str(level_name(message.level))?;
-    out.try_push_str(": ")?;
+    out.push_str(": ");
+    out.push_str(level_name(message.level));
+    out.push_str(": ");
     put_shown(out, Kind::Line, message.title)?;
-    out.try_push_str(" [")?;
+    out.push_str(" [");
     put_shown(out, Kind::Line, message.id)?;
-    out.try_push_str("]\n")?;
+    out.push_str("]\n");
     Ok(())
 }

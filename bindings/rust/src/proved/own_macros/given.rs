@@ -135,7 +135,7 @@ fn names_among(source: &Source<'_>, calls: &[Call]) -> Result<Vec<Given>, AllocE
     let mut has_condition = false;
     for index in 0..tokens.len() {
         if let Some(given) = given_at(source, calls, index, root, has_condition) {
-            names.try_push(given)?;
+            names.push(given);
         }
         root = root_after(tokens, index, root);
         has_condition = conditional_after(tokens, index, has_condition);

@@ -190,7 +190,7 @@ pub fn own_rows<'a>(
     let mut rows = Vec::new();
     for given in names {
         if let Some(row) = own_row(source, names, &calls, *given) {
-            rows.try_push(row)?;
+            rows.push(row);
         }
     }
     Ok(rows)

@@ -76,10 +76,10 @@ fn between_commas<'a>(text: &'a str) -> Result<Vec<&'a str>, AllocError> {
     let mut names = Vec::new();
     let mut rest = text;
     while let Some((name, rest_after)) = around_comma(rest) {
-        names.try_push(name)?;
+        names.push(name);
         rest = rest_after;
     }
-    names.try_push(rest)?;
+    names.push(rest);
     Ok(names)
 }
 

@@ -69,7 +69,7 @@ fn list_text_of(
     style: Option<usize>,
     task: Task<'_>,
 ) -> Result<Listing, AllocError> {
-    let snippet = String::made_from(literal)?;
+    let snippet = String::from(literal);
     list_source(text, style, Some(snippet), task)
 }
 

@@ -15,25 +15,25 @@ use core::ops::Range;
 
 /// Adds a text, escaped, between quotes.
 pub fn put_quoted(out: &mut String, text: &str) -> Result<(), AllocError> {
-    out.try_push('"')?;
+    out.push('"');
     put_all_written(out, text)?;
-    out.try_push('"')?;
+    out.push('"');
     Ok(())
 }
 
 /// Adds the line of a piece of literal text.
 pub(crate) fn put_literal(out: &mut String, text: &str) -> Result<(), AllocError> {
-    out.try_push_str("lit \"")?;
+    out.push_str("lit \"");
     put_all_written(out, text)?;
-    out.try_push_str("\"\n")?;
+    out.push_str("\"\n");
     Ok(())
 }
 
 /// Adds a label and then a name, neither of them escaped.
 #[inline(always)]
 fn put_name(out: &mut String, label: &str, name: &str) -> Result<(), AllocError> {
-    out.try_push_str(label)?;
-    out.try_push_str(name)?;
+    out.push_str(label);
+    out.push_str(name);
     Ok(())
 }
 
@@ -64,9 +64,9 @@ fn put_fill(
     span: &Option<Range<usize>>,
 ) -> Result<(), AllocError> {
     if let Some(c) = fill {
-        out.try_push_str(" fill=\"")?;
+        out.push_str(" fill=\"");
         put_written(out, c)?;
-        out.try_push('"')?;
+        out.push('"');
         put_span_at(out, span)?;
     }
     Ok(())
@@ -76,9 +76,9 @@ fn put_fill(
 #[inline(never)]
 fn put_alignment(out: &mut String, align: Alignment) -> Result<(), AllocError> {
     match align {
-        Alignment::AlignLeft => out.try_push_str(" align=left")?,
-        Alignment::AlignRight => out.try_push_str(" align=right")?,
-        Alignment::AlignCenter => out.try_push_str(" align=center")?,
+        Alignment::AlignLeft => out.push_str(" align=left"),
+        Alignment::AlignRight => out.push_str(" align=right"),
+        Alignment::AlignCenter => out.push_str(" align=center"),
         Alignment::AlignUnknown => {}
     }
     Ok(())
@@ -89,8 +89,8 @@ fn put_alignment(out: &mut String, align: Alignment) -> Result<(), AllocError> {
 fn put_sign(out: &mut String, sign: Option<Sign>) -> Result<(), AllocError> {
     match sign {
         None => {}
-        Some(Sign::Plus) => out.try_push_str(" sign=+")?,
-        Some(Sign::Minus) => out.try_push_str(" sign=-")?,
+        Some(Sign::Plus) => out.push_str(" sign=+"),
+        Some(Sign::Minus) => out.push_str(" sign=-"),
     }
     Ok(())
 }
@@ -99,7 +99,7 @@ fn put_sign(out: &mut String, sign: Option<Sign>) -> Result<(), AllocError> {
 #[inline]
 fn put_flag(out: &mut String, name: &str, flag: bool) -> Result<(), AllocError> {
     if flag {
-        out.try_push_str(name)?;
+        out.push_str(name);
     }
     Ok(())
 }
@@ -126,7 +126,7 @@ fn put_count(out: &mut String, count: &Count<'_>) -> Result<(), AllocError> {
         }
         Count::CountIsParam(n) => put_number(out, "param:", *n)?,
         Count::CountIsStar(n) => put_number(out, "star:", *n)?,
-        Count::CountImplied => out.try_push_str("implied")?,
+        Count::CountImplied => out.push_str("implied"),
     }
     Ok(())
 }
@@ -139,7 +139,7 @@ fn put_named_count(
     count: &Count<'_>,
     span: &Option<Range<usize>>,
 ) -> Result<(), AllocError> {
-    out.try_push_str(name)?;
+    out.push_str(name);
     put_count(out, count)?;
     put_span_at(out, span)?;
     Ok(())
@@ -175,8 +175,8 @@ fn put_precision(
 fn put_hex(out: &mut String, hex: Option<DebugHex>) -> Result<(), AllocError> {
     match hex {
         None => {}
-        Some(DebugHex::Lower) => out.try_push_str(" hex=lower")?,
-        Some(DebugHex::Upper) => out.try_push_str(" hex=upper")?,
+        Some(DebugHex::Lower) => out.push_str(" hex=lower"),
+        Some(DebugHex::Upper) => out.push_str(" hex=upper"),
     }
     Ok(())
 }
@@ -187,7 +187,7 @@ fn put_type(out: &mut String, ty: &str, span: &Option<Range<usize>>) -> Result<(
     if span.is_none() && ty.is_empty() {
         return Ok(());
     }
-    out.try_push_str(" ty=")?;
+    out.push_str(" ty=");
     put_quoted(out, ty)?;
     put_span_at(out, span)?;
     Ok(())
@@ -210,18 +210,18 @@ pub(crate) fn put_argument(out: &mut String, argument: &Argument<'_>) -> Result<
     put_span(out, ' ', &argument.position_span)?;
     put_flags(out, &argument.format)?;
     put_values(out, &argument.format)?;
-    out.try_push('\n')?;
+    out.push('\n');
     Ok(())
 }
 
 /// Adds the line of an error.
 #[inline(never)]
 fn put_fault(out: &mut String, error: &ParseError) -> Result<(), AllocError> {
-    out.try_push_str("fault")?;
+    out.push_str("fault");
     put_span(out, ' ', &error.span)?;
-    out.try_push(' ')?;
-    out.try_push_str(error.description.as_str())?;
-    out.try_push('\n')?;
+    out.push(' ');
+    out.push_str(error.description.as_str());
+    out.push('\n');
     Ok(())
 }
 

@@ -93,7 +93,7 @@ pub struct LiteralText {
 pub fn literal_text(literal: &str) -> Result<Option<LiteralText>, AllocError> {
     if let Some(RawText { hashes, text }) = raw_text(literal) {
         return Ok(Some(LiteralText {
-            text: String::made_from(text)?,
+            text: String::from(text),
             style: Some(hashes),
         }));
     }

@@ -15,11 +15,11 @@ const SPAN_BYTES: usize = 43;
 /// Appends a label and then a number in decimal digits to `out`.
 #[inline(always)]
 pub(crate) fn put_number(out: &mut String, label: &str, number: usize) -> Result<(), AllocError> {
-    out.try_push_str(label)?;
+    out.push_str(label);
     if number < 10 {
-        out.try_push(char::from(b'0' + number as u8))?;
+        out.push(char::from(b'0' + number as u8));
     } else {
-        out.try_push_str(Buffer::new().format(number))?;
+        out.push_str(Buffer::new().format(number));
     }
     Ok(())
 }

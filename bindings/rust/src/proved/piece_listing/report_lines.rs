@@ -45,16 +45,16 @@ pub fn has_entries(report: &Report<'_>) -> bool {
 fn put_numbers(out: &mut String, label: &str, numbers: &[usize]) -> Result<(), AllocError> {
     for n in numbers {
         put_number(out, label, *n)?;
-        out.try_push('\n')?;
+        out.push('\n');
     }
     Ok(())
 }
 
 /// Adds the line of a name, which begins with `label`.
 fn put_name(out: &mut String, label: &str, name: &str) -> Result<(), AllocError> {
-    out.try_push_str(label)?;
+    out.push_str(label);
     put_quoted(out, name)?;
-    out.try_push('\n')?;
+    out.push('\n');
     Ok(())
 }
 

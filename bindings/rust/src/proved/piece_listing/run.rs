@@ -32,7 +32,7 @@ pub fn read_input<R: Read>(reader: &mut R) -> Result<Vec<u8>, RunFault> {
         if count > LIMIT - bytes.len() {
             return Err(RunFault::TooLong);
         }
-        bytes.try_extend_from_slice(&chunk[..count])?;
+        bytes.extend_from_slice(&chunk[..count]);
     }
     Err(RunFault::TooLong)
 }

@@ -43,12 +43,12 @@ pub fn has_index(set: &Indices, index: usize) -> bool {
 #[inline(never)]
 fn mark(marks: &mut Vec<bool>, index: usize) -> Result<(), AllocError> {
     for _ in marks.len()..index {
-        marks.try_push(false)?;
+        marks.push(false);
     }
     if index < marks.len() {
         marks[index] = true;
     } else {
-        marks.try_push(true)?;
+        marks.push(true);
     }
     Ok(())
 }
@@ -57,7 +57,7 @@ fn mark(marks: &mut Vec<bool>, index: usize) -> Result<(), AllocError> {
 #[inline(never)]
 pub fn insert_index(set: &mut Indices, index: usize) -> Result<(), AllocError> {
     let is_new = if index.saturating_sub(set.marks.len()) >= GAP {
-        set.others.insert_in(index)?
+        set.others.insert(index)
     } else if has_index(set, index) {
         false
     } else {
@@ -74,19 +74,18 @@ pub fn insert_index(set: &mut Indices, index: usize) -> Result<(), AllocError> {
 fn push_from(list: &mut Vec<usize>, set: &BTreeSet<usize>, first: usize) -> Result<(), AllocError> {
     for n in set.iter() {
         if *n >= first {
-            list.try_push(*n)?;
+            list.push(*n);
         }
     }
     Ok(())
 }
 
 /// Returns the indices of a set from `first` up to `end`, in ascending order.
-#[inline(never)]
 fn members_between(set: &Indices, first: usize, end: usize) -> Result<Vec<usize>, AllocError> {
     let mut members = Vec::new();
     for n in first..end {
         if has_index(set, n) {
-            members.try_push(n)?;
+            members.push(n);
         }
     }
     Ok(members)
@@ -106,10 +105,10 @@ pub fn members_from(set: &Indices, first: usize) -> Result<Vec<usize>, AllocErro
 /// failure would take minutes.
 #[inline(never)]
 pub fn missing_indices(set: &Indices, end: usize, room: usize) -> Result<Vec<usize>, AllocError> {
-    let mut missing_indices = Vec::made_for(room)?;
+    let mut missing_indices = Vec::with_capacity(room);
     for n in 0..end {
         if !has_index(set, n) {
-            missing_indices.try_push(n)?;
+            missing_indices.push(n);
         }
     }
     Ok(missing_indices)

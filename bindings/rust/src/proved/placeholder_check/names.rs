@@ -59,7 +59,7 @@ fn has_name<'a>(names: &[&'a str], later_set: &BTreeSet<&'a str>, name: &'a str)
 /// Inserts a name into a set.
 #[inline]
 fn insert_later<'a>(set: &mut BTreeSet<&'a str>, name: &'a str) -> Result<(), AllocError> {
-    set.insert_in(name)?;
+    set.insert(name);
     Ok(())
 }
 
@@ -72,7 +72,7 @@ pub fn insert_name<'a>(names: &mut Names<'a>, name: &'a str) -> Result<(), Alloc
     if names.list.len() >= SCAN_LIMIT {
         insert_later(&mut names.later_set, name)?;
     }
-    names.list.try_push(name)?;
+    names.list.push(name);
     Ok(())
 }
 
@@ -97,7 +97,7 @@ pub fn missing_names<'a>(
     let mut missing_names = Vec::new();
     for name in names {
         if !has_name(others, later_set, name) {
-            missing_names.try_push(*name)?;
+            missing_names.push(*name);
         }
     }
     Ok(missing_names)

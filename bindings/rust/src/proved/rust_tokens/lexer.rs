@@ -141,12 +141,12 @@ fn add_unless_empty(
     end: usize,
 ) -> Result<(), AllocError> {
     if start < end {
-        tokens.try_push(Token {
+        tokens.push(Token {
             kind,
             span: start..end,
             suffix_start: end,
             is_ended: true,
-        })?;
+        });
     }
     Ok(())
 }
@@ -167,7 +167,7 @@ pub fn tokens(text: &str) -> Result<Vec<Token>, AllocError> {
             suffix_start: text.len() - step.suffix.len(),
             is_ended: step.is_ended,
         };
-        list.try_push(token)?;
+        list.push(token);
         rest = step.rest;
     }
     Ok(list)

@@ -76,10 +76,10 @@ impl Balance {
         }
         match token.side() {
             Side::Neither => {}
-            Side::Opens(delimiter) => self.openings.try_push(Opening {
+            Side::Opens(delimiter) => self.openings.push(Opening {
                 position: token.start,
                 delimiter,
-            })?,
+            }),
             Side::Closes(delimiter) => self.close(delimiter, token.start),
         }
         Ok(())

@@ -130,7 +130,7 @@ pub fn leaves(text: &str) -> Result<Vec<Token<'_>>, AllocError> {
     let mut rest = Tokens::new(text);
     let mut tokens = Vec::new();
     while let Some(token) = rest.next() {
-        tokens.try_push(token)?;
+        tokens.push(token);
     }
     Ok(tokens)
 }

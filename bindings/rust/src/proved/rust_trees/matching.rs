@@ -43,13 +43,13 @@ fn close(matching: &mut Matching, delimiter: Delimiter) -> Result<(), AllocError
     if let Some(top) = matching.openings.pop() {
         if is_same(top.delimiter, delimiter) {
             matching.partners[top.position] = Some(index);
-            matching.partners.try_push(Some(top.position))?;
+            matching.partners.push(Some(top.position));
             return Ok(());
         }
     }
     matching.openings.clear();
     matching.unexpected_index = matching.unexpected_index.or(Some(index));
-    matching.partners.try_push(None)?;
+    matching.partners.push(None);
     Ok(())
 }
 
@@ -57,14 +57,14 @@ fn close(matching: &mut Matching, delimiter: Delimiter) -> Result<(), AllocError
 #[inline]
 pub fn add(matching: &mut Matching, token: &Token<'_>) -> Result<(), AllocError> {
     match token.side() {
-        Side::Neither => matching.partners.try_push(None)?,
+        Side::Neither => matching.partners.push(None),
         Side::Opens(delimiter) => {
             let position = matching.partners.len();
-            matching.openings.try_push(Opening {
+            matching.openings.push(Opening {
                 position,
                 delimiter,
-            })?;
-            matching.partners.try_push(None)?;
+            });
+            matching.partners.push(None);
         }
         Side::Closes(delimiter) => close(matching, delimiter)?,
     }

@@ -109,7 +109,7 @@ fn add_known(
         return Ok(());
     }
     let place = place_from(text, known_places, offset);
-    known_places.try_push(KnownPlace { offset, place })?;
+    known_places.push(KnownPlace { offset, place });
     Ok(())
 }
 

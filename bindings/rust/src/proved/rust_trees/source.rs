@@ -46,11 +46,11 @@ impl<'a> Source<'a> {
         rest: &mut Tokens<'a>,
     ) -> Result<Self, AllocError> {
         let mut tokens = Vec::new();
-        tokens.try_extend_from_slice(front)?;
+        tokens.extend_from_slice(front);
         let mut matching = match_delimiters(front)?;
         while let Some(token) = rest.next() {
             add(&mut matching, &token)?;
-            tokens.try_push(token)?;
+            tokens.push(token);
             if is_closing(token.side()) && is_closed(&matching) {
                 return Ok(source_of(tokens, matching));
             }

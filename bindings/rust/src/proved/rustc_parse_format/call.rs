@@ -98,7 +98,7 @@ impl<'input> Reader<'input> {
     #[inline(always)]
     pub(crate) fn piece(&mut self, mode: ParseMode) -> Result<Option<Piece<'input>>, AllocError> {
         if self.cursor.opens_placeholder() {
-            let mut argument = Box::made_of(Argument::default())?;
+            let mut argument = Box::new(Argument::default());
             self.placeholder(mode, &mut argument)?;
             return Ok(Some(Piece::NextArgument(argument)));
         }

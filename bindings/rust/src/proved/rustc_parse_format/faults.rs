@@ -144,7 +144,7 @@ impl<'input> Faults<'input> {
         if let Some(second) = faults.second.take() {
             list.try_push(second)?;
         }
-        list.try_append(&mut faults.rest)?;
+        list.append(&mut faults.rest);
         Ok(())
     }
 

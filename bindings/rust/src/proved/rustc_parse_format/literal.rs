@@ -88,7 +88,7 @@ pub fn read_content(content: &str) -> Result<Option<Vec<ContentCharacter>>, Allo
 fn put_plain(text: &mut String, rest: &mut Rest<'_>) -> Result<(), AllocError> {
     let run = rest.take_run(Class::Plain);
     if !run.is_empty() {
-        text.try_push_str(run)?;
+        text.push_str(run);
     }
     Ok(())
 }
@@ -120,7 +120,7 @@ fn shrink(text: &mut String) {
 #[inline]
 pub fn content_text(content: &str) -> Result<Option<String>, AllocError> {
     // no unit is shorter than its value; a longer content may be refused at its start
-    let mut text = String::made_for(content.len().min(FIRST_ROOM))?;
+    let mut text = String::with_capacity(content.len().min(FIRST_ROOM));
     let mut rest = Rest::new(content);
     put_plain(&mut text, &mut rest)?;
     while !rest.is_empty() {

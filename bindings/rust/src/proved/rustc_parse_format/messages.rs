@@ -15,55 +15,54 @@ use core::ops::Range;
 
 /// Returns the description of a missing closing brace, from the character found in its place, or
 /// `None` at the end of the input.
-#[inline]
+#[inline(never)]
 fn expected_brace(character: Option<char>) -> Result<String, AllocError> {
     let Some(c) = character else {
         return String::made_from("expected `}` but string was terminated");
     };
     // 21 bytes, at most 6 for the character, and the closing quote
-    let mut text = String::made_for(28)?;
-    text.try_push_str("expected `}`, found `")?;
+    let mut text = String::with_capacity(28);
+    text.push_str("expected `}`, found `");
     put_written(&mut text, c)?;
     text.try_push('`')?;
     Ok(text)
 }
 
 /// Returns the description of a number above 65535, from its digits.
-#[inline]
+#[inline(never)]
 fn out_of_range(digits: &str) -> Result<String, AllocError> {
-    let mut text = String::made_for(70 + digits.len())?;
-    text.try_push_str("integer `")?;
-    text.try_push_str(digits)?;
-    text.try_push_str("` does not fit into the type `u16` whose range is `0..=65535`")?;
+    let mut text = String::with_capacity(70 + digits.len());
+    text.push_str("integer `");
+    text.push_str(digits);
+    text.push_str("` does not fit into the type `u16` whose range is `0..=65535`");
     Ok(text)
 }
 
 /// Returns the flag with the type `?` after it.
-#[inline]
 fn flagged_type(flag: char) -> Result<String, AllocError> {
-    let mut text = String::made_for(1 + flag.len_utf8())?;
+    let mut text = String::with_capacity(1 + flag.len_utf8());
     text.try_push(flag)?;
     text.try_push('?')?;
     Ok(text)
 }
 
 /// Returns the note on how to write the type `?` for the argument `word`.
-#[inline]
+#[inline(never)]
 fn debug_after(word: &str) -> Result<String, AllocError> {
-    let mut text = String::made_for(37 + word.len())?;
-    text.try_push_str("`?` comes after `:`, try `")?;
-    text.try_push_str(word)?;
-    text.try_push_str(":?` instead")?;
+    let mut text = String::with_capacity(37 + word.len());
+    text.push_str("`?` comes after `:`, try `");
+    text.push_str(word);
+    text.push_str(":?` instead");
     Ok(text)
 }
 
 /// Returns the label on where an alignment belongs.
-#[inline]
+#[inline(never)]
 fn align_after(sign: char) -> Result<String, AllocError> {
-    let mut text = String::made_for(30 + sign.len_utf8())?;
-    text.try_push_str("expected `")?;
+    let mut text = String::with_capacity(30 + sign.len_utf8());
+    text.push_str("expected `");
     text.try_push(sign)?;
-    text.try_push_str("` to occur after `:`")?;
+    text.push_str("` to occur after `:`");
     Ok(text)
 }
 
@@ -76,7 +75,7 @@ fn set_texts(
     span: &Range<usize>,
 ) -> Result<(), AllocError> {
     parse_error.description = description;
-    parse_error.label = String::made_from(label)?;
+    parse_error.label = String::from(label);
     parse_error.span = span.start..span.end;
     Ok(())
 }
@@ -90,14 +89,14 @@ fn set_texts_with_note(
     label: &str,
     span: &Range<usize>,
 ) -> Result<(), AllocError> {
-    let description = String::made_from(description)?;
-    parse_error.note = Some(String::made_from(note)?);
+    let description = String::from(description);
+    parse_error.note = Some(String::from(note));
     set_texts(parse_error, description, label, span)
 }
 
 /// Sets the description, the note, the span and the secondary label of an error whose label is that
 /// of a missing closing brace.
-#[inline]
+#[inline(never)]
 fn set_brace_error(
     parse_error: &mut ParseError,
     description: String,
@@ -105,9 +104,8 @@ fn set_brace_error(
     span: &Range<usize>,
     second: (&str, &Range<usize>),
 ) -> Result<(), AllocError> {
-    parse_error.note = Some(String::made_from(note)?);
-    parse_error.secondary_label =
-        Some((String::made_from(second.0)?, second.1.start..second.1.end));
+    parse_error.note = Some(String::from(note));
+    parse_error.secondary_label = Some((String::from(second.0), second.1.start..second.1.end));
     set_texts(parse_error, description, "expected `}`", span)
 }
 
@@ -146,7 +144,7 @@ impl Fault<'_> {
 }
 
 /// Sets an error, which is still empty, to that of a fault.
-#[inline]
+#[inline(never)]
 pub fn set_error(parse_error: &mut ParseError, fault: &Fault<'_>) -> Result<(), AllocError> {
     match fault {
         Fault::UnmatchedBrace(span) => set_texts_with_note(
@@ -195,7 +193,7 @@ pub fn set_error(parse_error: &mut ParseError, fault: &Fault<'_>) -> Result<(), 
         ),
         Fault::TextAfterColon(span) => set_texts(
             parse_error,
-            String::made_from("format specifiers are not allowed")?,
+            String::from("format specifiers are not allowed"),
             "remove this text",
             span,
         ),
@@ -228,7 +226,7 @@ pub fn set_error(parse_error: &mut ParseError, fault: &Fault<'_>) -> Result<(), 
             parse_error.note = Some(debug_after(word)?);
             set_texts(
                 parse_error,
-                String::made_from("expected format parameter to occur after `:`")?,
+                String::from("expected format parameter to occur after `:`"),
                 "expected `?` to occur after `:`",
                 span,
             )
@@ -236,16 +234,16 @@ pub fn set_error(parse_error: &mut ParseError, fault: &Fault<'_>) -> Result<(), 
         Fault::LateAlign(sign, span) => {
             parse_error.label = align_after(*sign)?;
             parse_error.span = span.start..span.end;
-            parse_error.description = String::made_from(
+            parse_error.description = String::from(
                 "expected alignment specifier after `:` in format string; example: `{:>?}`",
-            )?;
+            );
             Ok(())
         }
         Fault::Grouping(span, opening) => set_brace_error(
             parse_error,
-            String::made_from(
+            String::from(
                 "python's numeric grouping `,` is not supported in rust format strings",
-            )?,
+            ),
             "to print `{`, you can escape it using `{{`",
             span,
             ("because of this opening brace", opening),
@@ -254,9 +252,9 @@ pub fn set_error(parse_error: &mut ParseError, fault: &Fault<'_>) -> Result<(), 
             parse_error.suggestion = fault.suggestion()?;
             set_brace_error(
                 parse_error,
-                String::made_from(
+                String::from(
                     "python's f-string debug `=` is not supported in rust, use `dbg(x)` instead",
-                )?,
+                ),
                 "to print `{`, you can escape it using `{{`",
                 span,
                 ("because of this opening brace", opening),

@@ -81,12 +81,12 @@ fn line_char(c: char) -> char {
 /// Adds a character as a workflow command has it: in a property, or in its message.
 fn put_command_char(out: &mut String, is_property: bool, c: char) -> Result<(), AllocError> {
     match c {
-        '%' => out.try_push_str("%25")?,
-        '\r' => out.try_push_str("%0D")?,
-        '\n' => out.try_push_str("%0A")?,
-        ':' if is_property => out.try_push_str("%3A")?,
-        ',' if is_property => out.try_push_str("%2C")?,
-        _ => out.try_push(line_char(c))?,
+        '%' => out.push_str("%25"),
+        '\r' => out.push_str("%0D"),
+        '\n' => out.push_str("%0A"),
+        ':' if is_property => out.push_str("%3A"),
+        ',' if is_property => out.push_str("%2C"),
+        _ => out.push(line_char(c)),
     }
     Ok(())
 }
@@ -118,11 +118,11 @@ fn last_digit(number: u32) -> char {
 /// Adds the long escape of a character in a string of JSON.
 fn put_code(out: &mut String, c: char) -> Result<(), AllocError> {
     let code = c as u32;
-    out.try_push_str("\\u")?;
-    out.try_push(last_digit(code / 4096))?;
-    out.try_push(last_digit(code / 256))?;
-    out.try_push(last_digit(code / 16))?;
-    out.try_push(last_digit(code))?;
+    out.push_str("\\u");
+    out.push(last_digit(code / 4096));
+    out.push(last_digit(code / 256));
+    out.push(last_digit(code / 16));
+    out.push(last_digit(code));
     Ok(())
 }
 
@@ -130,12 +130,12 @@ fn put_code(out: &mut String, c: char) -> Result<(), AllocError> {
 fn put_json_char(out: &mut String, c: char) -> Result<(), AllocError> {
     let letter = escape_letter(c);
     if letter != '\0' {
-        out.try_push('\\')?;
-        out.try_push(letter)?;
+        out.push('\\');
+        out.push(letter);
     } else if line_char(c) != c {
         put_code(out, c)?;
     } else {
-        out.try_push(c)?;
+        out.push(c);
     }
     Ok(())
 }
@@ -143,7 +143,7 @@ fn put_json_char(out: &mut String, c: char) -> Result<(), AllocError> {
 /// Adds a character as a kind of text has it.
 fn put_char(out: &mut String, kind: Kind, c: char) -> Result<(), AllocError> {
     match kind {
-        Kind::Line => Ok(out.try_push(line_char(c))?),
+        Kind::Line => Ok(out.push(line_char(c))),
         Kind::Property => Ok(put_command_char(out, true, c)?),
         Kind::Message => Ok(put_command_char(out, false, c)?),
         Kind::Json => Ok(put_json_char(out, c)?),
@@ -153,11 +153,11 @@ fn put_char(out: &mut String, kind: Kind, c: char) -> Result<(), AllocError> {
 /// Appends a text as this kind has it.
 pub fn put_shown(out: &mut String, kind: Kind, text: &str) -> Result<(), AllocError> {
     let (front, mut rest) = split_plain(kind, text);
-    out.try_push_str(front)?;
+    out.push_str(front);
     while let Some((c, tail)) = split_first(rest) {
         put_char(out, kind, c)?;
         let (front, rest_after) = split_plain(kind, tail);
-        out.try_push_str(front)?;
+        out.push_str(front);
         rest = rest_after;
     }
     Ok(())

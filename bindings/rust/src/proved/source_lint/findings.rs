@@ -80,7 +80,7 @@ fn put_finding<'c>(
     is_whole: bool,
 ) -> Result<(), AllocError> {
     if is_whole || is_text_fault(fault) {
-        findings.try_push(finding(site, report, fault, is_whole)?)?;
+        findings.push(finding(site, report, fault, is_whole)?);
     }
     Ok(())
 }

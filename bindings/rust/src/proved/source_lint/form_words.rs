@@ -24,12 +24,12 @@ fn form_id(form: Form<'_>) -> &'static str {
 
 /// Adds a token that rustc found, in its words.
 fn put_operator(out: &mut String, operator: Operator<'_>) -> Result<(), AllocError> {
-    out.try_push_str(kind_word(operator.first.text))?;
-    out.try_push_str("`")?;
-    out.try_push_str(operator.first.text)?;
-    out.try_push_str(operator.second)?;
-    out.try_push_str(operator.third)?;
-    out.try_push_str("`")?;
+    out.push_str(kind_word(operator.first.text));
+    out.push_str("`");
+    out.push_str(operator.first.text);
+    out.push_str(operator.second);
+    out.push_str(operator.third);
+    out.push_str("`");
     Ok(())
 }
 
@@ -65,17 +65,17 @@ fn end_words(is_last: bool) -> &'static str {
 /// Adds the title.
 fn put_title(out: &mut String, form: Form<'_>) -> Result<(), AllocError> {
     match form {
-        Form::NoString => out.try_push_str("requires at least a format string argument")?,
-        Form::NoLiteral { .. } => out.try_push_str("format argument must be a string literal")?,
+        Form::NoString => out.push_str("requires at least a format string argument"),
+        Form::NoLiteral { .. } => out.push_str("format argument must be a string literal"),
         Form::NoComma { expected, operator } => {
-            out.try_push_str(expected_words(expected))?;
+            out.push_str(expected_words(expected));
             put_operator(out, operator)?;
         }
         Form::NoOperand(operator) => {
-            out.try_push_str(missing_words())?;
+            out.push_str(missing_words());
             put_operator(out, operator)?;
         }
-        Form::NoExpression { is_last, .. } => out.try_push_str(end_words(is_last))?,
+        Form::NoExpression { is_last, .. } => out.push_str(end_words(is_last)),
     }
     Ok(())
 }
@@ -201,12 +201,12 @@ fn push_label(
     is_primary: bool,
     text: &str,
 ) -> Result<(), AllocError> {
-    let text = String::made_from(text)?;
-    labels.try_push(Label {
+    let text = String::from(text);
+    labels.push(Label {
         range,
         is_primary,
         text,
-    })?;
+    });
     Ok(())
 }
 
@@ -225,7 +225,7 @@ fn form_labels(text: &str, span: &Range<usize>, form: Form<'_>) -> Result<Vec<La
 fn put_placeholders(out: &mut String, count: usize) -> Result<(), AllocError> {
     let mut countdown = count;
     while countdown > 0 {
-        out.try_push_str(" {}")?;
+        out.push_str(" {}");
         countdown -= 1;
     }
     Ok(())
@@ -233,9 +233,9 @@ fn put_placeholders(out: &mut String, count: usize) -> Result<(), AllocError> {
 
 /// Returns the format string for an argument and so many others, with the comma after it.
 fn literal_for(other_count: usize) -> Result<String, AllocError> {
-    let mut text = String::made_from("\"{}")?;
+    let mut text = String::from("\"{}");
     put_placeholders(&mut text, other_count)?;
-    text.try_push_str("\", ")?;
+    text.push_str("\", ");
     Ok(text)
 }
 
@@ -245,13 +245,13 @@ fn form_help(text: &str, span: &Range<usize>, form: Form<'_>) -> Result<Option<H
         return Ok(None);
     };
     let message = "you might be missing a string literal to format with";
-    let words = String::made_from(message)?;
+    let words = String::from(message);
     let literal = literal_for(other_count)?;
     let mut edits = Vec::new();
-    edits.try_push(Edit {
+    edits.push(Edit {
         range: range_in(text, span.start, span.start),
         text: literal,
-    })?;
+    });
     Ok(Some(Help { text: words, edits }))
 }
 
@@ -283,7 +283,7 @@ pub fn put_form(
 ) -> Result<(), AllocError> {
     if let Some(form) = form {
         let span = form_range(text, tokens, call, arguments, form);
-        findings.try_push(form_finding(text, span, form)?)?;
+        findings.push(form_finding(text, span, form)?);
     }
     Ok(())
 }

@@ -63,7 +63,7 @@ pub fn givens<'a>(
 ) -> Result<Vec<FormatArgument<'a>>, AllocError> {
     let mut list = Vec::new();
     for argument in arguments {
-        list.try_push(format_argument(tokens, argument))?;
+        list.push(format_argument(tokens, argument));
     }
     Ok(list)
 }

@@ -15,7 +15,7 @@ use core::ops::Range;
 fn ranges(site: Site<'_, '_>, spots: &[Spot]) -> Result<Vec<Range<usize>>, AllocError> {
     let mut ranges = Vec::new();
     for spot in spots {
-        ranges.try_push(spot_range(site, *spot))?;
+        ranges.push(spot_range(site, *spot));
     }
     Ok(ranges)
 }
@@ -25,10 +25,10 @@ pub fn notes(site: Site<'_, '_>, notes: Vec<CallNote>) -> Result<Vec<Note>, Allo
     let mut list = Vec::new();
     for note in notes {
         let ranges = ranges(site, &note.spots)?;
-        list.try_push(Note {
+        list.push(Note {
             text: note.text,
             ranges,
-        })?;
+        });
     }
     Ok(list)
 }
@@ -37,7 +37,7 @@ pub fn notes(site: Site<'_, '_>, notes: Vec<CallNote>) -> Result<Vec<Note>, Allo
 fn put_source(out: &mut String, site: Site<'_, '_>, spot: Option<Spot>) -> Result<(), AllocError> {
     if let Some(spot) = spot {
         let range = spot_range(site, spot);
-        out.try_push_str(&site.text[range.start..range.end])?;
+        out.push_str(&site.text[range.start..range.end]);
     }
     Ok(())
 }
@@ -47,7 +47,7 @@ fn put_source(out: &mut String, site: Site<'_, '_>, spot: Option<Spot>) -> Resul
 fn edit_text(site: Site<'_, '_>, edit: CallEdit) -> Result<String, AllocError> {
     let mut text = edit.text;
     put_source(&mut text, site, edit.copied_spot)?;
-    text.try_push_str(edit.rest)?;
+    text.push_str(edit.rest);
     Ok(text)
 }
 
@@ -57,7 +57,7 @@ fn edits(site: Site<'_, '_>, edits: Vec<CallEdit>) -> Result<Vec<Edit>, AllocErr
     for edit in edits {
         let range = spot_range(site, edit.spot);
         let text = edit_text(site, edit)?;
-        list.try_push(Edit { range, text })?;
+        list.push(Edit { range, text });
     }
     Ok(list)
 }

@@ -31,7 +31,7 @@ pub fn read_calls<'a>(
     let mut rest = calls;
     while let Some((call, others)) = rest.split_first() {
         let reading = read_call(&mut readings.findings, file, part, call)?;
-        readings.calls.try_push(reading)?;
+        readings.calls.push(reading);
         rest = others;
     }
     Ok(())
@@ -58,7 +58,7 @@ fn read_file(
 
 /// Adds the findings in the texts of the attributes of a file.
 fn put_attributes(findings: &mut Vec<Finding>, text: &str) -> Result<(), AllocError> {
-    if !text.contains("on_unimplemented") {
+    if !text.has_text("on_unimplemented") {
         return Ok(());
     }
     let source = Source::new(text)?;

@@ -56,7 +56,7 @@ fn put_definition<'a>(
     token: &Token<'a>,
 ) -> Result<(), AllocError> {
     if begins_definition(previous, last) && is_word(token) {
-        names.insert_in(word(token))?;
+        names.insert(word(token));
     }
     Ok(())
 }
@@ -64,7 +64,7 @@ fn put_definition<'a>(
 /// Returns the names of the macros that a file defines by `macro_rules!`, without `r#`.
 pub fn macro_names<'a>(text: &'a str) -> Result<BTreeSet<&'a [u8]>, AllocError> {
     let mut names = BTreeSet::new();
-    if !text.contains("macro_rules") {
+    if !text.has_text("macro_rules") {
         return Ok(names);
     }
     let mut rest = Tokens::new(text);

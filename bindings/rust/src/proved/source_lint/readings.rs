@@ -102,11 +102,11 @@ pub fn arguments_before(arguments: &[Argument], end: usize) -> Result<Vec<Argume
         if argument.start >= end {
             return Ok(list);
         }
-        list.try_push(Argument {
+        list.push(Argument {
             start: argument.start,
             end: argument.end.min(end),
             is_named: argument.is_named,
-        })?;
+        });
     }
     Ok(list)
 }

@@ -40,10 +40,8 @@ fn apply_edit(edited_text: &mut EditedText<'_>, edit: &Edit<'_>) -> Result<(), A
         edited_text.rest,
         edit.span.start.saturating_sub(edited_text.end),
     );
-    edited_text.bytes.try_extend_from_slice(source)?;
-    edited_text
-        .bytes
-        .try_extend_from_slice(edit.text.as_bytes())?;
+    edited_text.bytes.extend_from_slice(source);
+    edited_text.bytes.extend_from_slice(edit.text.as_bytes());
     edited_text.rest = rest_after(
         edited_text.rest,
         edit.span.end.saturating_sub(edited_text.end),
@@ -66,7 +64,7 @@ fn mend(edited_text: &mut EditedText<'_>, finding: &Finding) -> Result<(), Alloc
     let edits = edits_of(finding)?;
     if !edits.is_empty() && are_after(edited_text.end, edits.as_slice()) {
         apply_edits(edited_text, edits.as_slice())?;
-        edited_text.ids.try_push(finding.id)?;
+        edited_text.ids.push(finding.id);
     }
     Ok(())
 }
@@ -84,6 +82,6 @@ pub fn mend_each<'t>(text: &'t str, findings: &[Finding]) -> Result<EditedText<'
         mend(&mut edited_text, finding)?;
     }
     let rest = edited_text.rest;
-    edited_text.bytes.try_extend_from_slice(rest)?;
+    edited_text.bytes.extend_from_slice(rest);
     Ok(edited_text)
 }

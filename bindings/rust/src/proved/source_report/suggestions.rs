@@ -148,10 +148,10 @@ fn is_movable_help(help: &Option<Help>) -> bool {
 fn add_label_edits<'f>(edits: &mut Vec<Edit<'f>>, labels: &'f [Label]) -> Result<(), AllocError> {
     for label in labels {
         if let Some(suggestion) = suggestion_of(label.text.as_str()) {
-            edits.try_push(Edit {
+            edits.push(Edit {
                 span: label.range.start..label.range.end,
                 text: suggestion.text,
-            })?;
+            });
         }
     }
     Ok(())
@@ -164,10 +164,10 @@ fn add_help_edits<'f>(edits: &mut Vec<Edit<'f>>, help: &'f Option<Help>) -> Resu
         return Ok(());
     };
     for edit in help.edits.as_slice() {
-        edits.try_push(Edit {
+        edits.push(Edit {
             span: edit.range.start..edit.range.end,
             text: edit.text.as_str(),
-        })?;
+        });
     }
     Ok(())
 }

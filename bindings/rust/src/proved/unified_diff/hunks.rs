@@ -82,7 +82,7 @@ fn put_extent(out: &mut String, lines_before: usize, count: usize) -> Result<(),
         lines_before + 1
     };
     put_number(out, first)?;
-    out.try_push_str(",")?;
+    out.push_str(",");
     put_number(out, count)
 }
 
@@ -105,8 +105,8 @@ fn put_line_end(out: &mut String, line: &str) -> Result<(), AllocError> {
 
 /// Appends a row.
 fn put_row(out: &mut String, row: &Row<'_>) -> Result<(), AllocError> {
-    out.try_push_str(sign(row.side))?;
-    out.try_push_str(row.line)?;
+    out.push_str(sign(row.side));
+    out.push_str(row.line);
     put_line_end(out, row.line)
 }
 
@@ -122,11 +122,11 @@ fn put_rows(out: &mut String, rows: &[Row<'_>]) -> Result<(), AllocError> {
 #[inline(never)]
 fn put_hunk(out: &mut String, numbers: Numbers, rows: &[Row<'_>]) -> Result<(), AllocError> {
     let row_numbers = count(rows);
-    out.try_push_str("@@ -")?;
+    out.push_str("@@ -");
     put_extent(out, numbers.old, row_numbers.old)?;
-    out.try_push_str(" +")?;
+    out.push_str(" +");
     put_extent(out, numbers.new, row_numbers.new)?;
-    out.try_push_str(" @@\n")?;
+    out.push_str(" @@\n");
     put_rows(out, rows)
 }
 
@@ -170,7 +170,7 @@ fn wants_quotes(path: &str) -> bool {
 /// Appends a byte as an escape of C.
 #[inline(never)]
 fn put_octal(out: &mut String, byte: u32) -> Result<(), AllocError> {
-    out.try_push('\\')?;
+    out.push('\\');
     put_number(out, (byte / 64) as usize)?;
     put_number(out, (byte / 8 % 8) as usize)?;
     put_number(out, (byte % 8) as usize)
@@ -183,7 +183,7 @@ fn put_quoted(out: &mut String, c: char) -> Result<(), AllocError> {
         return put_octal(out, c as u32);
     }
     if c == '"' || c == '\\' {
-        out.try_push('\\')?;
+        out.push('\\');
     }
     out.try_push(c)
 }
@@ -193,13 +193,13 @@ fn put_quoted(out: &mut String, c: char) -> Result<(), AllocError> {
 #[inline(never)]
 fn put_path(out: &mut String, path: &str) -> Result<(), AllocError> {
     if !wants_quotes(path) {
-        out.try_push_str(path)?;
+        out.push_str(path);
         if path.contains(' ') {
-            out.try_push('\t')?;
+            out.push('\t');
         }
         return Ok(());
     }
-    out.try_push('"')?;
+    out.push('"');
     // After NUL there are two digits in base 16 of a byte that is not UTF-8.
     let (mut digits, mut byte) = (0u32, 0u32);
     for c in path.chars() {
@@ -223,11 +223,11 @@ fn put_path(out: &mut String, path: &str) -> Result<(), AllocError> {
 fn put_head(out: &mut String, path: &str) -> Result<(), AllocError> {
     let mut name = String::new();
     put_path(&mut name, path)?;
-    out.try_push_str("--- ")?;
-    out.try_push_str(name.as_str())?;
-    out.try_push_str("\n+++ ")?;
-    out.try_push_str(name.as_str())?;
-    out.try_push_str("\n")?;
+    out.push_str("--- ");
+    out.push_str(name.as_str());
+    out.push_str("\n+++ ");
+    out.push_str(name.as_str());
+    out.push_str("\n");
     Ok(())
 }
 

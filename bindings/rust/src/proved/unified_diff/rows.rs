@@ -33,7 +33,7 @@ pub struct Row<'a> {
 fn lines_of<'a>(text: &'a str) -> Result<Vec<&'a str>, AllocError> {
     let mut lines = Vec::new();
     for line in text.split_inclusive('\n') {
-        lines.try_push(line)?;
+        lines.push(line);
     }
     Ok(lines)
 }
@@ -91,7 +91,7 @@ fn next_common(old: &[&str], new: &[&str]) -> Option<Pair> {
 /// Appends a line that is on this side.
 #[inline]
 fn push_line<'a>(rows: &mut Vec<Row<'a>>, side: Side, line: &'a str) -> Result<(), AllocError> {
-    rows.try_push(Row { side, line })?;
+    rows.push(Row { side, line });
     Ok(())
 }
 

@@ -99,10 +99,12 @@ pub fn define(nodes: &mut Nodes, outer: &[String], path: &[String], what: Defini
 
 /// Returns the table that was read.
 pub fn close(nodes: Nodes) -> Table {
-    nodes
-        .into_iter()
-        .map(|(key, node)| (key, value_of(node)))
-        .collect()
+    let mut table = Table::new();
+    // (`collect` would sort what is in order)
+    for (key, node) in nodes {
+        table.insert(key, value_of(node));
+    }
+    table
 }
 
 /// Returns the value that was read.

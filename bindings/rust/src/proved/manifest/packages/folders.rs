@@ -57,7 +57,7 @@ impl Packages {
         if let (Misfit::Workspace, Found::Failed(failure)) = (misfit, member.workspace) {
             return Ok(failure);
         }
-        let path = crate::shim::try_format!("{}/Cargo.toml", member.folder)?;
+        let path = ::alloc::format!("{}/Cargo.toml", member.folder);
         self.fail(rt, path.as_str(), ManifestFault::Misfit(misfit))
     }
 
@@ -69,7 +69,7 @@ impl Packages {
         member: Member<'_>,
     ) -> io::Result<usize> {
         let index = self.packages.len();
-        let folder = String::made_from(member.folder)?;
+        let folder = String::from(member.folder);
         let workspace = self.read_at(member.workspace);
         let Some(manifest) = self.manifests.get(member.manifest) else {
             return Ok(index);
@@ -96,7 +96,7 @@ impl Packages {
                 package.rules.fail(failure);
             }
         }
-        self.packages.try_push(package)?;
+        self.packages.push(package);
         Ok(index)
     }
 
@@ -112,12 +112,12 @@ impl Packages {
         let mut rules = plain_rules(Edition::Of2024);
         rules.package = Some(index);
         rules.fail(failure);
-        self.packages.try_push(Package {
-            folder: String::made_from(folder)?,
+        self.packages.push(Package {
+            folder: String::from(folder),
             dependencies: Vec::new(),
             manifest: None,
             rules,
-        })?;
+        });
         Ok(index)
     }
 
@@ -185,7 +185,7 @@ impl Packages {
                 folder = *known;
                 break;
             }
-            paths.try_push(rest)?;
+            paths.push(rest);
             match rest.rsplit_once('/') {
                 Some((parent, _)) => rest = parent,
                 None => break,
@@ -193,7 +193,7 @@ impl Packages {
         }
         for path in paths.iter().rev() {
             folder = self.look_into(rt, *path, folder)?;
-            self.folders.insert_in(String::made_from(*path)?, folder)?;
+            self.folders.insert(String::from(*path), folder);
         }
         Ok(folder)
     }

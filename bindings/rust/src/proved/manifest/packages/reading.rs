@@ -53,7 +53,7 @@ fn bytes_at(rt: &crate::shim::host::HostRuntime, path: &str) -> io::Result<Optio
         Err(error) if error.kind() == io::ErrorKind::NotFound => return Ok(None),
         Err(error) => return Err(error),
     }
-    let mut bytes = Vec::made_for(ROOM)?;
+    let mut bytes = Vec::with_capacity(ROOM);
     fs::open(rt, path)?
         .take(MOST as u64 + 1)
         .read_to_end(&mut bytes)?;
@@ -114,11 +114,11 @@ impl Packages {
         fault: ManifestFault,
     ) -> io::Result<usize> {
         let index = self.failures.len();
-        self.failures.try_push(ManifestFailure {
-            path: String::made_from(path)?,
+        self.failures.push(ManifestFailure {
+            path: String::from(path),
             fault,
             is_said: false,
-        })?;
+        });
         Ok(index)
     }
 
@@ -130,7 +130,7 @@ impl Packages {
             Ok(Some(bytes)) => match toml_in(rt, bytes.as_slice())? {
                 Ok(manifest) => {
                     let index = self.manifests.len();
-                    self.manifests.try_push(manifest)?;
+                    self.manifests.push(manifest);
                     return Ok(Found::Read(index));
                 }
                 Err(fault) => fault,
@@ -150,9 +150,9 @@ impl Packages {
         if let Some(found) = self.found.get(folder) {
             return Ok(*found);
         }
-        let path = crate::shim::try_format!("{folder}/Cargo.toml")?;
+        let path = ::alloc::format!("{folder}/Cargo.toml");
         let found = self.read_file(rt, path.as_str())?;
-        self.found.insert_in(String::made_from(folder)?, found)?;
+        self.found.insert(String::from(folder), found);
         Ok(found)
     }
 
@@ -165,7 +165,7 @@ impl Packages {
         above: ClippyVersion,
     ) -> io::Result<ClippyVersion> {
         for name in [".clippy.toml", "clippy.toml"] {
-            let path = crate::shim::try_format!("{folder}/{name}")?;
+            let path = ::alloc::format!("{folder}/{name}");
             match self.read_file(rt, path.as_str())? {
                 Found::Absent => {}
                 Found::Failed(failure) => return Ok(ClippyVersion::Failed(failure)),
@@ -202,7 +202,7 @@ impl Packages {
         let path = match self.manifests.get(manifest) {
             Some(manifest) => match package_setting(manifest, "workspace") {
                 Setting::Text(path) if !is_plain(path) => return Ok(Found::Absent),
-                Setting::Text(path) => crate::shim::try_format!("{folder}/{path}")?,
+                Setting::Text(path) => ::alloc::format!("{folder}/{path}"),
                 _ => return Ok(nearest),
             },
             None => return Ok(nearest),
