@@ -25,8 +25,8 @@ FEATURES = ("lint", "programs")
 GATED = re.compile(r'#\[cfg\(feature = "(\w+)"\)\]\s*(?:#\[.*\]\s*)*(?:pub )?mod (\w+);')
 # The crates of which each function can be inlined: those that read the bytes of all texts and files
 INLINED = ("rustc_parse_format", "rust_tokens", "rust_trees")
-# Files of these that make the texts of errors: each call would get a copy of its own
-SELDOM = {("rustc_parse_format", "messages.rt"), ("rustc_parse_format", "escapes.rt")}
+# A function of these that makes the texts of an error: each caller would get a copy of all of them
+SELDOM = {("rustc_parse_format", "set_error")}
 # Others, whose functions run for each token of a file or each character that is drawn
 FREQUENT = ("format_calls", "macro_owners", "call_forms", "source_lint", "drawn_lines", "drawn_labels",
             "shown_text")
@@ -416,7 +416,7 @@ def head_of(source, item):
         words = source.texts(item.start, item.head)
         length = len(source.places(item.open, item.last))
         attribute = ""
-        is_inlined = source.crate in INLINED and (source.crate, source.name) not in SELDOM
+        is_inlined = source.crate in INLINED and (source.crate, item.name) not in SELDOM
         if is_inlined or length <= SHORT:
             attribute = "#[inline]\n"
         elif length > LONG and source.crate not in FREQUENT:

@@ -9,7 +9,7 @@ use crate::shim::alloc::AllocError;
 use crate::shim::prelude::*;
 
 /// Returns the short escape of a character, or `None` if it has none.
-#[inline(never)]
+#[inline]
 fn short_escape(c: char) -> Option<&'static str> {
     match c {
         '\0' => Some("\\0"),
@@ -25,7 +25,7 @@ fn short_escape(c: char) -> Option<&'static str> {
 
 /// Appends a character that has no short escape: an ASCII control character as `\u{..}`, any other
 /// as it is.
-#[inline(never)]
+#[inline]
 fn put_plainly_written(out: &mut String, c: char) -> Result<(), AllocError> {
     let code = u32::from(c);
     if code < 32 || code == 127 {
@@ -39,6 +39,7 @@ fn put_plainly_written(out: &mut String, c: char) -> Result<(), AllocError> {
 }
 
 /// Appends a character, escaped if it has an escape or is an ASCII control character.
+#[inline]
 pub fn put_written(out: &mut String, c: char) -> Result<(), AllocError> {
     match short_escape(c) {
         Some(escape) => out.push_str(escape),
@@ -64,7 +65,7 @@ fn put_unchanged(out: &mut String, rest: &mut Rest<'_>) -> Result<(), AllocError
 }
 
 /// Appends the characters of a text, each as [`put_written`] does.
-#[inline(never)]
+#[inline]
 pub fn put_all_written(out: &mut String, text: &str) -> Result<(), AllocError> {
     let mut rest = Rest::new(text);
     put_unchanged(out, &mut rest)?;

@@ -15,7 +15,7 @@ use core::ops::Range;
 
 /// Returns the description of a missing closing brace, from the character found in its place, or
 /// `None` at the end of the input.
-#[inline(never)]
+#[inline]
 fn expected_brace(character: Option<char>) -> Result<String, AllocError> {
     let Some(c) = character else {
         return String::made_from("expected `}` but string was terminated");
@@ -29,7 +29,7 @@ fn expected_brace(character: Option<char>) -> Result<String, AllocError> {
 }
 
 /// Returns the description of a number above 65535, from its digits.
-#[inline(never)]
+#[inline]
 fn out_of_range(digits: &str) -> Result<String, AllocError> {
     let mut text = String::with_capacity(70 + digits.len());
     text.push_str("integer `");
@@ -39,6 +39,7 @@ fn out_of_range(digits: &str) -> Result<String, AllocError> {
 }
 
 /// Returns the flag with the type `?` after it.
+#[inline]
 fn flagged_type(flag: char) -> Result<String, AllocError> {
     let mut text = String::with_capacity(1 + flag.len_utf8());
     text.try_push(flag)?;
@@ -47,7 +48,7 @@ fn flagged_type(flag: char) -> Result<String, AllocError> {
 }
 
 /// Returns the note on how to write the type `?` for the argument `word`.
-#[inline(never)]
+#[inline]
 fn debug_after(word: &str) -> Result<String, AllocError> {
     let mut text = String::with_capacity(37 + word.len());
     text.push_str("`?` comes after `:`, try `");
@@ -57,7 +58,7 @@ fn debug_after(word: &str) -> Result<String, AllocError> {
 }
 
 /// Returns the label on where an alignment belongs.
-#[inline(never)]
+#[inline]
 fn align_after(sign: char) -> Result<String, AllocError> {
     let mut text = String::with_capacity(30 + sign.len_utf8());
     text.push_str("expected `");
@@ -96,7 +97,7 @@ fn set_texts_with_note(
 
 /// Sets the description, the note, the span and the secondary label of an error whose label is that
 /// of a missing closing brace.
-#[inline(never)]
+#[inline]
 fn set_brace_error(
     parse_error: &mut ParseError,
     description: String,
