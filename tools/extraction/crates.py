@@ -19,10 +19,11 @@ CRATES = ("rustc_parse_format", "placeholder_check", "format_tokens", "fault_fix
           "manifest",
           "finding_forms",
           "lint_program", "formatread", "formatlint")
-# The features of the crate for Rust, each with those before it.
-FEATURES = ("lint", "programs")
-# A module that is there with a feature alone
-GATED = re.compile(r'#\[cfg\(feature = "(\w+)"\)\]\s*(?:#\[.*\]\s*)*(?:pub )?mod (\w+);')
+# The features of the crate for Rust: `programs` has the others.
+FEATURES = ("lint", "formatread", "programs")
+ALWAYS = frozenset({"", *FEATURES})
+# A module that is there with a feature alone, or with each of two
+GATED = re.compile(r'#\[cfg\((?:any\()?(feature = .*?)\)?\)\]\s*(?:#\[.*\]\s*)*(?:pub )?mod (\w+);')
 # The crates of which each function can be inlined: those that read the bytes of all texts and files
 INLINED = ("rustc_parse_format", "rust_tokens", "rust_trees")
 # A function of these that makes the texts of an error: each caller would get a copy of all of them
@@ -79,13 +80,13 @@ class Read:
             item.is_kept = known.is_kept
         return self.text(source, self.needs, self.cloned)
 
-    def made(self, callers, of_features=()):
-        """The sources in Rust, by their names, of all items that the callers need, which are files in
-        Rust, and so for each feature those that are there with it. A module that nothing before it
-        needs is there with the feature alone. It can be asked once."""
+    def made(self, callers):
+        """The sources in Rust, by their names, of all items that the callers need: files in Rust, by
+        the features with which they are there, or with all. A module that only these need is there
+        with the same features alone. It can be asked once."""
         needs = Needs(self.sources)
-        for rank, paths in enumerate((callers, *of_features)):
-            needs.add_callers(paths, rank)
+        for features, paths in sorted(callers.items(), key=lambda it: -len(it[0])):
+            needs.add_callers(paths, features)
         needs.note_passed()
         self.own |= {(it.crate, item.name) for it in self.sources for item in it.items_inside()
                      if item.is_kept and item.kind == "fn" and item.of}
@@ -140,13 +141,19 @@ def of_repository(read=None):
     their names."""
     files = [it for it in sorted(RUST.rglob("*.rs")) if RUST / "proved" not in it.parents]
     folder = lambda it: it.parent if it.stem in ("lib", "mod") else it.with_suffix("")
-    gated = {folder(it) / name: feature
-             for it in files for feature, name in GATED.findall(it.read_text())}
-    groups = {feature: [] for feature in ("", *FEATURES)}
+    gated = {folder(it) / name: with_programs(re.findall(r'"(\w+)"', features))
+             for it in files for features, name in GATED.findall(it.read_text())}
+    callers = {ALWAYS: []}
     for it in files:
         places = (it.with_suffix(""), *it.parents)
-        groups[next((gated[place] for place in places if place in gated), "")].append(it)
-    return (read or read_repository()).made(groups[""], [groups[it] for it in FEATURES])
+        features = next((gated[place] for place in places if place in gated), ALWAYS)
+        callers.setdefault(features, []).append(it)
+    return (read or read_repository()).made(callers)
+
+
+def with_programs(features):
+    """These features, and the one that has them."""
+    return frozenset({*features, "programs"})
 
 
 def laid_out(files):
@@ -178,17 +185,19 @@ class Needs:
         self.sources = sources
         self.files = {(source.crate, *module_of(source.name)): source for source in sources}
         self.items, self.methods, self.shown = set(), set(), set()
-        # The modules, and what is imported through files, with the rank of the feature that needs it
-        self.ranks, self.passed, self.rank = {}, {}, 0
+        # The modules, and what is imported through files, with the features that need it
+        self.features, self.passed, self.now = {}, {}, ALWAYS
+        # The files that callers name, with the features of these
+        self.named = []
 
-    def add_callers(self, paths, rank):
+    def add_callers(self, paths, features):
         """Marks all items that these files in Rust need, and what these need."""
-        self.rank = rank
+        self.now = features
         for path in paths:
             self.add_caller(in_place(str(path), Source, path.name, path.read_text(), False))
         self.follow()
         for module in filter(lambda it: self.has(*it), self.files):
-            self.ranks.setdefault(module, rank)
+            self.features.setdefault(module, features)
 
     def add_caller(self, caller):
         """Adds what a file in Rust names: what it imports of what is extracted, and each method
@@ -202,6 +211,7 @@ class Needs:
                 if "proved" in path:
                     found = self.resolved(path[path.index("proved") + 1 :])
                     self.items.add(found)
+                    self.named.append((found[0], self.now))
                     methods |= {(found[1], it[1]) for it in methods if it[0] == called}
                     if caller.text(caller.prev(at)) == "pub":
                         self.shown.add(found)
@@ -219,7 +229,7 @@ class Needs:
                 if behind is None:
                     return source.path, path[cut]
                 name = source.path, path[cut]
-                self.passed[name] = min(self.rank, self.passed.get(name, self.rank))
+                self.passed[name] = self.now | self.passed.get(name, self.now)
                 return self.resolved(self.absolute(source, behind) + path[cut + 1 :])
         return None, path[-1]
 
@@ -267,10 +277,12 @@ class Needs:
         """Notes what the modules import through others, with the features that they are there with. A
         module that another one names is there with each feature that that one is there with."""
         module_at = {it.path: module for module, it in self.files.items()}
+        for path, features in self.named:
+            self.is_widened(module_at.get(path), features)
         grown = True
         while grown:
             grown = False
-            for module, self.rank in list(self.ranks.items()):
+            for module, self.now in list(self.features.items()):
                 source, items = self.files[module], self.items
                 self.items = set()
                 for item in source.items:
@@ -278,14 +290,21 @@ class Needs:
                         if part.is_kept:
                             self.add(source, part)
                 for named in {module_at.get(path) for path, _ in self.items}:
-                    if self.ranks.get(named, 0) > self.rank:
-                        self.ranks[named] = self.rank
-                        grown = True
+                    grown |= self.is_widened(named, self.now)
                 self.items |= items
 
+    def is_widened(self, module, features):
+        """Has a module, and those around it, be there with these features too. Returns whether one was
+        not."""
+        around = [module[:cut + 1] for cut in range(len(module or ()))]
+        widened = [it for it in around if not self.features.get(it, ALWAYS) >= features]
+        for it in widened:
+            self.features[it] |= features
+        return bool(widened)
+
     def passed_in(self, path):
-        """The names that are imported through a file, with the ranks of their features."""
-        return {name: rank for (place, name), rank in self.passed.items() if place == path}
+        """The names that are imported through a file, with their features."""
+        return {name: features for (place, name), features in self.passed.items() if place == path}
 
     def has(self, *module):
         """Whether something of a module is needed, or of one in it."""
@@ -293,9 +312,9 @@ class Needs:
         return any(item.is_kept for source in inside for item in source.items)
 
     def feature(self, *module):
-        """The attribute of a module, if it is there with a feature alone that no module around it needs."""
-        rank = self.ranks.get(module, 0)
-        return attribute(rank) if rank > self.ranks.get(module[:-1], 0) else ""
+        """The attribute of a module, if it is there with fewer features than the module around it."""
+        features = self.features.get(module, ALWAYS)
+        return "" if features >= self.features.get(module[:-1], ALWAYS) else attribute(features)
 
     def is_needed(self, source, item, part):
         if item.kind != "impl":
@@ -312,9 +331,11 @@ class Needs:
         return (".", part.name, count) in self.methods
 
 
-def attribute(rank):
-    """The attribute of what is there with a feature alone."""
-    return f'#[cfg(feature = "{FEATURES[rank - 1]}")]\n'
+def attribute(features):
+    """The attribute of what is there with these features alone."""
+    words = [f'feature = "{it}"' for it in FEATURES[:-1] if it in features]
+    words = words or [f'feature = "{FEATURES[-1]}"']
+    return f"#[cfg({words[0] if len(words) == 1 else f'any({chr(44).join(words)})'})]\n"
 
 
 def module_of(name):
@@ -359,8 +380,8 @@ def rust_of(source, needs, crates, empty, cloned):
                 body += f"{comments(source, item)}{feature}{public} mod {item.name};"
         elif item.kind == "use":
             passed = needs.passed_in(source.path) if item.is_public else {}
-            features = {name: attribute(rank) for name, rank in passed.items()
-                        if name not in own and rank > needs.ranks[here]}
+            features = {name: attribute(it) for name, it in passed.items()
+                        if name not in own and not it >= needs.features[here]}
             words = own | passed.keys(), features
             lines = rules.imported(source, item, source.crate, crates, *words)
             body += comments(source, item) + lines if lines else ""

@@ -3,8 +3,6 @@
 //! [`Fault`] is what an error is made of, with the [`id`](Fault::id) of its kind.
 use crate::proved::drawn_faults::draw as draw_in;
 use crate::proved::fault_fixes::{edits as edits_in, errors_of as errors_of_in, fix as fix_in};
-use crate::proved::rustc_parse_format::error_list::empty_error;
-use crate::proved::rustc_parse_format::messages::set_error;
 use crate::shim::alloc::answer;
 use crate::shim::parser::Parser;
 use crate::{Argument, ParseError, ParseMode};
@@ -15,6 +13,7 @@ use core::fmt::{self, Display, Formatter};
 pub use crate::proved::drawn_lines::{Picture, WIDTH};
 pub use crate::proved::fault_fixes::{Edit, FixedLiteral};
 pub use crate::proved::rustc_parse_format::Fault;
+pub use crate::shim::parser::error_of;
 
 /// Returns the text that shows an error of a literal of this mode under its source, as rustc 1.95
 /// draws it, in its colours if the picture has them. The spans of the error are byte ranges of the
@@ -139,23 +138,6 @@ pub fn faults_of(
         answer(parser.next_with_faults(&mut argument, &mut faults));
     }
     faults
-}
-
-/// Returns the error of a fault, as a parser has it in its list. An allocation failure aborts, as
-/// elsewhere in Rust.
-///
-/// ```
-/// use dephungo::faults::{error_of, faults_of};
-/// use dephungo::ParseMode;
-///
-/// let faults = faults_of("{}}", None, None, false, ParseMode::Format);
-/// assert_eq!(error_of(&faults[0]).description, "unmatched `}` found");
-/// ```
-#[must_use]
-pub fn error_of(fault: &Fault<'_>) -> ParseError {
-    let mut error = empty_error();
-    answer(set_error(&mut error, fault));
-    error
 }
 
 /// Returns the source literal of an input with the edits that its faults suggest, and the text with

@@ -14,7 +14,7 @@ pub mod faults;
 #[cfg(feature = "lint")]
 pub mod literal;
 mod parser;
-#[cfg(feature = "programs")]
+#[cfg(feature = "formatread")]
 pub mod programs;
 // These sources are extracted from another language. It lacks some forms that clippy wants, and has
 // parameters that only its contracts read, or that only give the allocator there; public items of

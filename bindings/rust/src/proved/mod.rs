@@ -26,7 +26,7 @@ pub mod fault_rules;
 pub mod file_fixes;
 #[cfg(feature = "lint")]
 pub mod file_inlines;
-#[cfg(feature = "programs")]
+#[cfg(feature = "formatread")]
 pub mod file_paths;
 #[cfg(feature = "programs")]
 pub mod finding_forms;
@@ -40,7 +40,7 @@ pub mod format_literal;
 pub mod format_tokens;
 #[cfg(feature = "programs")]
 pub mod formatlint;
-#[cfg(feature = "programs")]
+#[cfg(feature = "formatread")]
 pub mod formatread;
 #[cfg(feature = "lint")]
 pub mod inlined_arguments;
@@ -62,9 +62,9 @@ pub mod message_faults;
 pub mod message_forms;
 #[cfg(feature = "programs")]
 pub mod own_macros;
-#[cfg(feature = "lint")]
+#[cfg(any(feature = "lint", feature = "formatread"))]
 pub mod piece_listing;
-#[cfg(feature = "lint")]
+#[cfg(any(feature = "lint", feature = "formatread"))]
 pub mod placeholder_check;
 #[cfg(feature = "lint")]
 pub mod rust_tokens;

@@ -6,14 +6,14 @@ pub mod alloc;
 #[cfg(feature = "programs")]
 pub mod clap;
 #[allow(dead_code)]
-#[cfg(feature = "programs")]
+#[cfg(feature = "formatread")]
 pub mod host;
-#[cfg(feature = "lint")]
+#[cfg(any(feature = "lint", feature = "formatread"))]
 pub mod itoa;
 // The listing as JSON, which only a program writes, is all that uses it.
 #[cfg(feature = "programs")]
 pub mod json;
-#[cfg(feature = "lint")]
+#[cfg(any(feature = "lint", feature = "formatread"))]
 pub mod parser;
 pub mod simd;
 // Only a program uses it.

@@ -1,12 +1,30 @@
 //! The parser, with the calls by which other extracted modules read it.
-use crate::faults::error_of;
+use crate::proved::rustc_parse_format::error_list::empty_error;
 use crate::proved::rustc_parse_format::faults::Fault;
+use crate::proved::rustc_parse_format::messages::set_error;
 use crate::proved::rustc_parse_format::types::{NextPiece, PieceKind};
-use crate::shim::alloc::AllocError;
+use crate::shim::alloc::{answer, AllocError};
 use crate::{Argument, ParseError, ParseMode, Piece};
 use alloc::string::String;
 use alloc::vec::Vec;
 use core::ops::Range;
+
+/// Returns the error of a fault, as a parser has it in its list. An allocation failure aborts, as
+/// elsewhere in Rust.
+///
+/// ```
+/// use dephungo::faults::{error_of, faults_of};
+/// use dephungo::ParseMode;
+///
+/// let faults = faults_of("{}}", None, None, false, ParseMode::Format);
+/// assert_eq!(error_of(&faults[0]).description, "unmatched `}` found");
+/// ```
+#[must_use]
+pub fn error_of(fault: &Fault<'_>) -> ParseError {
+    let mut error = empty_error();
+    answer(set_error(&mut error, fault));
+    error
+}
 
 /// A parser over an input, which reads one piece at a time.
 pub struct Parser<'input> {

@@ -5,4 +5,6 @@
 // That source has the contracts, and is proved. That this text means the same is only tested.
 
 pub(crate) mod escapes;
-pub use escapes::{is_plain, path_bytes, path_text, shown_path};
+#[cfg(feature = "programs")]
+pub use escapes::shown_path;
+pub use escapes::{is_plain, path_bytes, path_text};

@@ -4,24 +4,24 @@
 // Extracted from crates/piece_listing/src/lib.rt by tools/extract: not to be edited.
 // That source has the contracts, and is proved. That this text means the same is only tested.
 
-#[cfg(feature = "programs")]
+#[cfg(feature = "formatread")]
 pub(crate) mod arguments;
-#[cfg(feature = "programs")]
+#[cfg(feature = "formatread")]
 pub(crate) mod calls;
-#[cfg(feature = "programs")]
+#[cfg(feature = "formatread")]
 pub(crate) mod input;
-#[cfg(feature = "programs")]
+#[cfg(feature = "formatread")]
 pub(crate) mod listing;
 pub mod literal;
-#[cfg(feature = "programs")]
+#[cfg(feature = "formatread")]
 pub(crate) mod numbers;
-#[cfg(feature = "programs")]
+#[cfg(feature = "formatread")]
 pub(crate) mod report_lines;
-#[cfg(feature = "programs")]
+#[cfg(feature = "formatread")]
 pub mod run;
-#[cfg(feature = "programs")]
+#[cfg(feature = "formatread")]
 pub(crate) mod task;
-#[cfg(feature = "programs")]
+#[cfg(feature = "formatread")]
 pub mod verdict;
 #[cfg(feature = "programs")]
 pub use listing::put_quoted;

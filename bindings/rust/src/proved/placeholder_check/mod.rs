@@ -9,8 +9,12 @@ pub(crate) mod indices;
 pub(crate) mod names;
 pub(crate) mod uses;
 
-#[cfg(feature = "programs")]
+#[cfg(feature = "lint")]
+pub use checker::check;
+#[cfg(feature = "formatread")]
 pub use checker::check_uses;
-pub use checker::{check, Report};
+pub use checker::Report;
 #[cfg(feature = "programs")]
-pub use uses::{uses_of, Uses};
+pub use uses::uses_of;
+#[cfg(feature = "formatread")]
+pub use uses::Uses;

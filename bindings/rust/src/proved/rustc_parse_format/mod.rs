@@ -46,7 +46,7 @@ pub(crate) mod types;
 #[cfg(feature = "lint")]
 #[doc(hidden)]
 pub use blocks::{front_width, Stops};
-#[cfg(feature = "programs")]
+#[cfg(feature = "formatread")]
 #[doc(hidden)]
 pub use escapes::{put_all_written, put_written};
 #[cfg(feature = "lint")]
@@ -55,5 +55,5 @@ pub use types::{
     Alignment, Argument, Count, DebugHex, FormatSpec, ParseError, ParseMode, Piece, Position, Sign,
     Suggestion,
 };
-#[cfg(feature = "lint")]
+#[cfg(any(feature = "lint", feature = "formatread"))]
 pub use types::{NextPiece, PieceKind};
