@@ -70,10 +70,10 @@ abbrev pub lacks_owners : Names → Bool
 lacks_owners p = not (has_any p.given (std_crates ++ (log_crates ++ error_crates)))
 
 -- A macro of a crate is its owner's if a file of the package imports it from that, or uses all
--- macros of an owner.
+-- macros of an owner, maybe in another target, and no glob gives the name in this file.
 abbrev pub is_of_crate : Names → Names → List ℕ → Bool
 is_of_crate p f n = is_free p f n && (lacks_owners p
-    && (is_used p n || (has p.imported n && hides_globs p f n)))
+    && ((is_used p n || has p.imported n) && hides_globs p f n))
 
 -- A call of this name in the file f of the package p is for certain one of the macro that tables
 -- mean. A name of which they know nothing was given with its rule by the user.

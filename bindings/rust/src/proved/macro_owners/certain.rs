@@ -92,8 +92,8 @@ fn is_of_crate(package_facts: &Facts, file_facts: &Facts, name: &'static [u8]) -
     if !is_free(package_facts, file_facts, name) || !lacks_owners(package_facts) {
         return false;
     }
-    is_used(package_facts, name)
-        || has(&package_facts.imported, name) && hides_globs(package_facts, file_facts, name)
+    let is_owned = is_used(package_facts, name) || has(&package_facts.imported, name);
+    is_owned && hides_globs(package_facts, file_facts, name)
 }
 
 /// Returns whether a call of this name in a file of a package is for certain one of the macro that
