@@ -2,7 +2,7 @@
 
 use asm_lint::appends_newline;
 use format_calls::{Row, Table};
-use own_macros::{Given, given_names, own_rows};
+use macro_owners::{Given, given_names, own_rows};
 use rust_trees::Source;
 use source_lint::{OwnMacro, file_faults, own_file_faults};
 use source_report::{Options, Report};

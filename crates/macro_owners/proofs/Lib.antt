@@ -1,3 +1,11 @@
+pub mod ArmLists
 pub mod Collecting
+pub mod Expanding
 pub mod Finding
+pub mod Forwarding
+pub mod GivenNames
+pub mod LeftSides
+pub mod Marks
+pub mod Owning
 pub mod Quieting
+pub mod RightSides

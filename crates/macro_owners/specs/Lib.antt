@@ -1,6 +1,13 @@
+pub mod Arms
 pub mod Contexts
+pub mod Expansions
 pub mod Facts
 pub mod Files
+pub mod Given
+pub mod Lefts
 pub mod Names
+pub mod Own
 pub mod Owners
 pub mod Quiet
+pub mod Rights
+pub mod Words

@@ -1,7 +1,7 @@
 //! Names that small files give to macros.
 
 use format_calls::{Rule, Table};
-use own_macros::{Given, given_names, own_rows};
+use macro_owners::{Given, given_names, own_rows};
 use rust_trees::Source;
 use std::alloc::{AllocError, Global};
 use std::io::Print;

@@ -1,7 +1,0 @@
-use Rattle.std.proofs.Common.{map}
-use Rattle.rust_trees.specs.Leaves.{leaf}
-use Rattle.own_macros.proofs.Owning.{EachBefore, IsOther}
-use Rattle.own_macros.proofs.own.is_alone.Given as goal
-
-abbrev pub invariant-loop-given : goal.invariant-loop-given
-invariant-loop-given l = EachBefore (IsOther (map leaf l.tokens) l.name) l.names l.given-index

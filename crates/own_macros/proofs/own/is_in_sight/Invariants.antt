@@ -1,6 +1,0 @@
-use Rattle.std.proofs.Common.{◌<◌, ℕ}
-use Rattle.own_macros.proofs.Owning.{IsClear}
-use Rattle.own_macros.proofs.own.is_in_sight.Given as goal
-
-abbrev pub invariant-loop-index : goal.invariant-loop-index
-invariant-loop-index l = (i : ℕ) → i < l.index → IsClear l.source l.name l.end i
