@@ -14,10 +14,9 @@ CRATES = ("rustc_parse_format", "placeholder_check", "format_tokens", "fault_fix
           "drawn_labels", "drawn_edits", "drawn_faults", "rust_tokens", "rust_trees",
           "format_calls", "call_forms", "source_report", "diagnostic", "text_faults", "text_diagnostics",
           "call_faults", "asm_faults", "message_faults", "piece_listing", "listing_json", "literal_faults", "format_literal",
-          "format_lint", "lint_words", "asm_lint", "source_lint", "file_fixes", "inlined_arguments",
-          "file_inlines", "macro_owners", "file_paths", "unified_diff", "fault_rules", "message_forms",
+          "format_lint", "asm_lint", "source_lint", "file_fixes", "inlined_arguments",
+          "file_inlines", "macro_owners", "file_paths", "unified_diff", "fault_rules", "emit",
           "manifest",
-          "finding_forms",
           "lint_program", "formatread", "formatlint")
 # The features of the crate for Rust: `programs` has the others.
 FEATURES = ("lint", "formatread", "programs")

@@ -11,11 +11,10 @@ use crate::reading::{
 use crate::rewrites::Rewrite;
 use crate::totals::Totals;
 use crate::walk::Walk;
+use emit::{File, Form, put_end, put_finding, put_start};
 use file_paths::{fs, shown_path};
-use finding_forms::{File, put_end, put_finding, put_start};
 use format_calls::Table;
 use lint_program::{Change, Failure, is_option, print_hint};
-use lint_words::Form;
 use manifest::{FileRules, Packages};
 use rust_trees::Places;
 use source_report::{Options, Report};

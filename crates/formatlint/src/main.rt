@@ -17,6 +17,7 @@ mod wanted_reports;
 use clap::error::ErrorKind;
 use clap::{ArgMatches, Error};
 use drawn_lines::WIDTH;
+use emit::Form;
 use fault_rules::{RULES, put_explanation, rule_of};
 use file_paths::{args, shown_path};
 use files::{Request, lint};
@@ -24,7 +25,6 @@ use lint_program::{
     Change, VERSION, change_of, command, form_of, has_colours, literal_status, print_failure,
     table_of, width_of,
 };
-use lint_words::Form;
 use output::write;
 use rewrites::Rewrite;
 use shown_text::{Kind, put_shown};

@@ -1,11 +1,12 @@
 //! The values that the arguments of the program stand for.
 
 use crate::changes::Change;
+use crate::colours::{ColourChoice, wants_colours};
 use clap::ArgMatches;
 use drawn_lines::WIDTH;
+use emit::Form;
 use format_calls::{Row, Rule, Table};
 use format_lint::task::{OutputKind, Task};
-use lint_words::{ColourChoice, Form, wants_colours};
 use rust_tokens::{Kind, first_token};
 use rustc_parse_format::ParseMode;
 use std::alloc::{AllocError, Global};

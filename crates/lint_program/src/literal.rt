@@ -2,13 +2,13 @@
 
 use crate::arguments::{file_of, has_colours, list_words, task_of, width_of};
 use crate::failure::Failure;
+use crate::messages::{put_failure, put_not_literal, system_words};
 use crate::recorder::Recorder;
 use crate::terminal::shown_bytes;
 use clap::ArgMatches;
 use drawn_lines::WIDTH;
 use file_paths::{fs, shown_path};
 use format_lint::run::run;
-use lint_words::{put_failure, put_not_literal, system_words};
 use listing_json::{Listing, list};
 use literal_faults::{file_fault, snippet_of};
 use piece_listing::run::{read_input, run as list_as_text, write_whole};

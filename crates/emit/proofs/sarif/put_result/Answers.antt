@@ -1,0 +1,10 @@
+use Rattle.std.proofs.Common.{◌∙◌}
+use Rattle.emit.proofs.Texts.{value-after, whole}
+use Rattle.emit.proofs.sarif.put_result.Goals as goal
+
+pub returns : goal.returns
+returns c = rw (← c.level_name.ensures) (whole _ _ _ (c.in_ok-put_end.ensures
+    ∙ (value-after _ _ _ _ c.in_ok-put_locations.ensures (c.in_ok-put_key.ensures _ _)
+    ∙ (c.in_ok-put_plain_member.ensures _
+    ∙ (c.in_ok-put_text-2.ensures _
+    ∙ (c.in_ok-put_text.ensures _))))))

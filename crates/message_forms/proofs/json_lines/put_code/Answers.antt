@@ -1,8 +1,0 @@
-use Rattle.std.proofs.Common.{◌∙◌}
-use Rattle.message_forms.proofs.Texts.{whole}
-use Rattle.message_forms.proofs.json_lines.put_code.Goals as goal
-
-pub returns : goal.returns
-returns c = whole _ _ _ (c.in_ok-put_end.ensures
-    ∙ (c.in_ok-put_text_or_null.ensures _
-    ∙ (c.in_ok-put_text.ensures _)))

@@ -1,9 +1,0 @@
-use Rattle.std.proofs.Common.{◌∙◌}
-use Rattle.message_forms.proofs.Texts.{whole}
-use Rattle.message_forms.proofs.json_lines.put_line.Goals as goal
-
-pub returns : goal.returns
-returns c = whole _ _ _ (c.in_ok-put_end.ensures
-    ∙ (c.in_ok-put_count-2.ensures _
-    ∙ (c.in_ok-put_count.ensures _
-    ∙ (c.in_ok-put_text.ensures _))))

@@ -1,6 +1,0 @@
-use Rattle.std.proofs.Common.{◌∙◌}
-use Rattle.message_forms.proofs.Texts.{whole}
-use Rattle.message_forms.proofs.json_lines.put_span.Goals as goal
-
-pub returns : goal.returns
-returns c = whole _ _ _ (c.in_ok-put_details.ensures ∙ c.in_ok-put_places.ensures _)

@@ -1,6 +1,0 @@
-use Rattle.message_forms.proofs.Texts.{value-after}
-use Rattle.message_forms.proofs.members.put_text_or_null.Goals as goal
-
-pub returns : goal.returns
-returns c ms =
-    value-after _ _ _ _ c.in_ok-put_string_or_null.ensures (c.in_ok-put_key.ensures _ _)

@@ -1,7 +1,0 @@
-use Rattle.std.proofs.Common.{◌∙◌}
-use Rattle.message_forms.proofs.Texts.{whole}
-use Rattle.message_forms.proofs.sarif.put_plain.Goals as goal
-
-pub returns : goal.returns
-returns c = whole _ _ _ (c.in_ok-put_end.ensures
-    ∙ (c.in_ok-put_text.ensures _))
