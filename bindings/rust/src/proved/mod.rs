@@ -18,6 +18,8 @@ pub mod drawn_faults;
 pub mod drawn_labels;
 #[cfg(feature = "lint")]
 pub mod drawn_lines;
+#[cfg(feature = "programs")]
+pub mod emit;
 #[cfg(feature = "lint")]
 pub mod fault_fixes;
 #[cfg(feature = "programs")]
@@ -28,8 +30,6 @@ pub mod file_fixes;
 pub mod file_inlines;
 #[cfg(feature = "formatread")]
 pub mod file_paths;
-#[cfg(feature = "programs")]
-pub mod finding_forms;
 #[cfg(feature = "lint")]
 pub mod format_calls;
 #[cfg(feature = "programs")]
@@ -47,8 +47,6 @@ pub mod inlined_arguments;
 #[cfg(feature = "programs")]
 pub mod lint_program;
 #[cfg(feature = "programs")]
-pub mod lint_words;
-#[cfg(feature = "programs")]
 pub mod listing_json;
 #[cfg(feature = "programs")]
 pub mod literal_faults;
@@ -58,10 +56,6 @@ pub mod macro_owners;
 pub mod manifest;
 #[cfg(feature = "lint")]
 pub mod message_faults;
-#[cfg(feature = "programs")]
-pub mod message_forms;
-#[cfg(feature = "programs")]
-pub mod own_macros;
 #[cfg(any(feature = "lint", feature = "formatread"))]
 pub mod piece_listing;
 #[cfg(any(feature = "lint", feature = "formatread"))]

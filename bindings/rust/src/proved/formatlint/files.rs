@@ -3,8 +3,8 @@
 // Extracted from crates/formatlint/src/files.rt by tools/extract: not to be edited.
 // That source has the contracts, and is proved. That this text means the same is only tested.
 
+use crate::proved::emit::{put_end, put_finding, put_start, File, Form};
 use crate::proved::file_paths::shown_path;
-use crate::proved::finding_forms::{put_end, put_finding, put_start, File};
 use crate::proved::format_calls::Table;
 use crate::proved::formatlint::output::{write, write_shown};
 use crate::proved::formatlint::own_rows::file_report;
@@ -16,7 +16,6 @@ use crate::proved::formatlint::rewrites::Rewrite;
 use crate::proved::formatlint::totals::Totals;
 use crate::proved::formatlint::walk::Walk;
 use crate::proved::lint_program::{is_option, print_hint, Change, Failure};
-use crate::proved::lint_words::Form;
 use crate::proved::manifest::{FileRules, Packages};
 use crate::proved::rust_trees::Places;
 use crate::proved::source_report::{Options, Report};

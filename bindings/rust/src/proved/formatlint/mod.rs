@@ -18,13 +18,13 @@ pub(crate) mod walk;
 pub(crate) mod wanted_reports;
 
 use crate::proved::drawn_lines::WIDTH;
+use crate::proved::emit::Form;
 use crate::proved::fault_rules::{put_explanation, rule_of, RULES};
 use crate::proved::file_paths::shown_path;
 use crate::proved::lint_program::{
     change_of, command, form_of, has_colours, literal_status, print_failure, table_of, width_of,
     Change, VERSION,
 };
-use crate::proved::lint_words::Form;
 use crate::proved::shown_text::{put_shown, Kind};
 use crate::proved::source_report::Options;
 use crate::shim::alloc::AllocError;

@@ -5,7 +5,7 @@
 
 use crate::proved::asm_lint::appends_newline;
 use crate::proved::format_calls::{Row, Table};
-use crate::proved::own_macros::{given_names, own_rows, Given};
+use crate::proved::macro_owners::{given_names, own_rows, Given};
 use crate::proved::rust_trees::Source;
 use crate::proved::source_lint::{file_faults, own_file_faults, OwnMacro};
 use crate::proved::source_report::{Options, Report};

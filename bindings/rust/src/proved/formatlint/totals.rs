@@ -7,8 +7,9 @@ use crate::proved::file_paths::shown_path;
 use crate::proved::format_calls::Reason;
 use crate::proved::formatlint::inlinings::{Inlinings, NO_CALLS};
 use crate::proved::formatlint::rewrites::RewrittenFile;
-use crate::proved::lint_program::{LeftText, Progress, StepFailure};
-use crate::proved::lint_words::{put_failure, put_place_failure, system_words};
+use crate::proved::lint_program::{
+    put_failure, put_place_failure, system_words, LeftText, Progress, StepFailure,
+};
 use crate::proved::manifest::{ManifestFailure, ManifestFault, Misfit};
 use crate::proved::piece_listing::verdict::RunFault;
 use crate::proved::rust_trees::Place;

@@ -4,10 +4,11 @@
 // That source has the contracts, and is proved. That this text means the same is only tested.
 
 use crate::proved::drawn_lines::WIDTH;
+use crate::proved::emit::Form;
 use crate::proved::format_calls::{Row, Rule, Table};
 use crate::proved::format_lint::task::{OutputKind, Task};
 use crate::proved::lint_program::changes::Change;
-use crate::proved::lint_words::{wants_colours, ColourChoice, Form};
+use crate::proved::lint_program::colours::{wants_colours, ColourChoice};
 use crate::proved::rust_tokens::{first_token, Kind};
 use crate::proved::rustc_parse_format::ParseMode;
 use crate::shim::alloc::AllocError;

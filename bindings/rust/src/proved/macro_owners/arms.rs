@@ -1,11 +1,11 @@
 //! The arms of a definition.
 
-// Extracted from crates/own_macros/src/arms.rt by tools/extract: not to be edited.
+// Extracted from crates/macro_owners/src/arms.rt by tools/extract: not to be edited.
 // That source has the contracts, and is proved. That this text means the same is only tested.
 
 use crate::proved::format_calls::{closing_token, is_mark, Call, Rule};
-use crate::proved::own_macros::lefts::argument_count;
-use crate::proved::own_macros::rights::{is_first_or_same, rule_of_right, Right};
+use crate::proved::macro_owners::lefts::argument_count;
+use crate::proved::macro_owners::rights::{is_first_or_same, rule_of_right, Right};
 use crate::proved::rust_trees::Source;
 
 /// An arm, `(left) => {right}`: the indexes of its delimiters.
@@ -20,7 +20,6 @@ pub struct Arm {
 }
 
 /// Returns the arm that starts at a token, or `None` if none does.
-#[inline(never)]
 fn arm_at(source: &Source<'_>, index: usize) -> Option<Arm> {
     let tokens = source.tokens();
     let left_close = closing_token(source, index)?;
@@ -37,7 +36,6 @@ fn arm_at(source: &Source<'_>, index: usize) -> Option<Arm> {
 
 /// Returns the rule of a macro that takes arguments and hands on the tokens after them to a macro
 /// of a rule, or `None` if that is no rule.
-#[inline(never)]
 fn shifted(rule: Rule, count: usize) -> Option<Rule> {
     match rule {
         Rule::Index(index) => Some(Rule::Index(index.checked_add(count)?)),
@@ -48,7 +46,6 @@ fn shifted(rule: Rule, count: usize) -> Option<Rule> {
 }
 
 /// Returns the rule by which an arm reads its tokens, or `None` if it is not of this form.
-#[inline(never)]
 fn rule_of_arm(source: &Source<'_>, calls: &[Call], arm: Arm) -> Option<Rule> {
     let tokens = source.tokens();
     let count = argument_count(tokens, arm.left_opening + 1, arm.left_close)?;
@@ -63,7 +60,6 @@ fn rule_of_arm(source: &Source<'_>, calls: &[Call], arm: Arm) -> Option<Rule> {
 
 /// Returns the rule that was found in arms so far with one arm more, or `None` if that reads its
 /// tokens by no rule or another one. An arm that takes no tokens changes nothing.
-#[inline(never)]
 fn joined_rule(
     source: &Source<'_>,
     calls: &[Call],
@@ -83,7 +79,6 @@ fn joined_rule(
 
 /// Returns the rule by which each arm between two delimiters reads its tokens, or `None` if there
 /// is none.
-#[inline(never)]
 pub fn rule_of_arms(
     source: &Source<'_>,
     calls: &[Call],

@@ -1,14 +1,16 @@
-//! The drawing of a finding under the lines of its file.
+//! The form for people: a finding drawn under the lines of its file.
 
-// Extracted from crates/finding_forms/src/drawings.rt by tools/extract: not to be edited.
+// Extracted from crates/emit/src/human.rt by tools/extract: not to be edited.
 // That source has the contracts, and is proved. That this text means the same is only tested.
 
 use crate::proved::drawn_faults::{
     put_labels, Diagnostic, Level, SourceHelp, SourceLabel, SourceNote,
 };
 use crate::proved::drawn_lines::Picture;
+use crate::proved::emit::file::File;
+use crate::proved::emit::message::Message;
+use crate::proved::emit::short::put_short;
 use crate::proved::fault_fixes::Edit;
-use crate::proved::finding_forms::forms::File;
 use crate::proved::source_report::Finding;
 use crate::shim::alloc::AllocError;
 use crate::shim::prelude::*;
@@ -304,7 +306,7 @@ fn put_drawn<'x>(
 /// Appends the drawing of a finding, maybe in colours, and returns whether there is one: none is
 /// made of more than 20 labels, of more than 4,096 bytes, or of a line with more than that.
 #[inline(never)]
-pub fn put_drawing(
+fn put_drawing(
     out: &mut String,
     colours: bool,
     width: usize,
@@ -319,4 +321,19 @@ pub fn put_drawing(
     };
     put_drawn(out, colours, width, file.path, &excerpt, finding)?;
     Ok(true)
+}
+
+/// Appends a message in the form for people: drawn, maybe in colours, or else in a line.
+pub fn put_human(
+    out: &mut String,
+    colours: bool,
+    width: usize,
+    file: &File<'_>,
+    finding: &Finding,
+    message: &Message<'_>,
+) -> Result<(), AllocError> {
+    if put_drawing(out, colours, width, file, finding)? {
+        return Ok(());
+    }
+    put_short(out, message)
 }

@@ -1,11 +1,11 @@
 //! The names that a file gives to macros.
 
-// Extracted from crates/own_macros/src/given.rt by tools/extract: not to be edited.
+// Extracted from crates/macro_owners/src/given.rt by tools/extract: not to be edited.
 // That source has the contracts, and is proved. That this text means the same is only tested.
 
 use crate::proved::format_calls::{calls, closing_token, is_mark, Call, Rule, Table};
-use crate::proved::own_macros::arms::rule_of_arms;
-use crate::proved::own_macros::words::{is_name, is_written};
+use crate::proved::macro_owners::arms::rule_of_arms;
+use crate::proved::macro_owners::indexed_words::{is_name, is_written};
 use crate::proved::rust_trees::{Source, Token};
 use crate::shim::alloc::AllocError;
 use crate::shim::prelude::*;
@@ -36,7 +36,6 @@ fn is_own_root(tokens: &[Token<'_>], index: usize) -> bool {
 
 /// Returns whether a word ends a name of an import whose path starts with the token `root`, which
 /// is 0 where there is no import, and the name is not known to be one of the package.
-#[inline(never)]
 fn is_imported(tokens: &[Token<'_>], root: usize, index: usize) -> bool {
     let is_end = is_mark(tokens, index + 1, b',')
         || is_mark(tokens, index + 1, b';')
@@ -47,7 +46,6 @@ fn is_imported(tokens: &[Token<'_>], root: usize, index: usize) -> bool {
 
 /// Returns whether a word is the name of a macro that is called by a path that is not known to be
 /// one of the package.
-#[inline(never)]
 fn is_called_by_path(tokens: &[Token<'_>], index: usize) -> bool {
     is_mark(tokens, index + 1, b'!')
         && is_mark(tokens, index.saturating_sub(1), b':')
@@ -55,7 +53,6 @@ fn is_called_by_path(tokens: &[Token<'_>], index: usize) -> bool {
 }
 
 /// Returns whether a token is the name of a macro that may be one of another crate.
-#[inline(never)]
 fn is_foreign(tokens: &[Token<'_>], root: usize, index: usize) -> bool {
     is_name(tokens, index)
         && (index > 0 && is_written(tokens, index - 1, "macro")
@@ -75,7 +72,6 @@ fn root_after(tokens: &[Token<'_>], index: usize, root: usize) -> usize {
 }
 
 /// Returns whether a condition stands before the item that goes on after a token.
-#[inline(never)]
 fn conditional_after(tokens: &[Token<'_>], index: usize, has_condition: bool) -> bool {
     let is_end = is_mark(tokens, index, b';')
         || is_mark(tokens, index, b'{')
@@ -95,7 +91,6 @@ fn definition_rule(source: &Source<'_>, calls: &[Call], opening: usize) -> Optio
 
 /// Returns the name that a token gives to a macro, or `None` if it gives none, where `root` is the
 /// first token of the import around it, and `has_condition` is whether a condition stands before.
-#[inline(never)]
 fn given_at(
     source: &Source<'_>,
     calls: &[Call],
@@ -127,7 +122,6 @@ fn given_at(
 
 /// Returns the names that a file gives to macros, one after the other, where these are the calls of
 /// known macros.
-#[inline(never)]
 fn names_among(source: &Source<'_>, calls: &[Call]) -> Result<Vec<Given>, AllocError> {
     let tokens = source.tokens();
     let mut names = Vec::new();

@@ -1,10 +1,10 @@
 //! The right sides of arms.
 
-// Extracted from crates/own_macros/src/rights.rt by tools/extract: not to be edited.
+// Extracted from crates/macro_owners/src/rights.rt by tools/extract: not to be edited.
 // That source has the contracts, and is proved. That this text means the same is only tested.
 
 use crate::proved::format_calls::{Call, Rule};
-use crate::proved::own_macros::words::{is_copy, is_use, is_written};
+use crate::proved::macro_owners::indexed_words::{is_copy, is_use, is_written};
 use crate::proved::rust_trees::Token;
 
 /// The part of a file that is the right side of an arm.
@@ -19,7 +19,6 @@ pub struct Right {
 }
 
 /// Returns whether two rules are the same.
-#[inline(never)]
 pub fn is_same(rule: Rule, other: Rule) -> bool {
     match rule {
         Rule::Index(index) => matches!(other, Rule::Index(it) if it == index),
@@ -38,7 +37,6 @@ pub fn is_first_or_same(found: Option<Rule>, rule: Rule) -> bool {
 }
 
 /// Returns the call among these, in the order of their names, that has its name at a token.
-#[inline(never)]
 fn call_named(calls: &[Call], name: usize) -> Option<Call> {
     match calls.binary_search_by_key(&name, |call: &Call| -> usize { call.name }) {
         Ok(position) if calls[position].name == name => Some(calls[position]),
@@ -48,7 +46,6 @@ fn call_named(calls: &[Call], name: usize) -> Option<Call> {
 
 /// Returns the rule of the macro to which a use of the variable hands on, or `None` if the use is
 /// no part of a call that is given all further tokens and nothing else.
-#[inline(never)]
 fn rule_of_use(tokens: &[Token<'_>], calls: &[Call], right: Right, index: usize) -> Option<Rule> {
     if index < 5 {
         return None;
@@ -67,7 +64,6 @@ fn rule_of_use(tokens: &[Token<'_>], calls: &[Call], right: Right, index: usize)
 
 /// Returns the rule of the macros to which a right side hands on, or `None` if it uses the variable
 /// in another way, or never, or for macros of several rules, or defines a macro.
-#[inline(never)]
 pub fn rule_of_right(tokens: &[Token<'_>], calls: &[Call], right: Right) -> Option<Rule> {
     let mut found = None;
     for index in right.start..right.end {

@@ -1,14 +1,12 @@
 //! The form of SARIF 2.1.0. A function whose name begins with `put_` appends to `out`.
 
-// Extracted from crates/message_forms/src/sarif.rt by tools/extract: not to be edited.
+// Extracted from crates/emit/src/sarif.rt by tools/extract: not to be edited.
 // That source has the contracts, and is proved. That this text means the same is only tested.
 
+use crate::proved::emit::escapes::put_uri;
+use crate::proved::emit::members::{put_comma, put_count, put_end, put_key, put_text, put_truth};
+use crate::proved::emit::message::{level_name, Message, Span};
 use crate::proved::fault_rules::{put_explanation, Rule};
-use crate::proved::message_forms::escapes::put_uri;
-use crate::proved::message_forms::members::{
-    put_comma, put_count, put_end, put_key, put_text, put_truth,
-};
-use crate::proved::message_forms::message::{level_name, Message, Span};
 use crate::shim::alloc::AllocError;
 use crate::shim::prelude::*;
 

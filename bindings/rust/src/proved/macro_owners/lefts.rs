@@ -1,10 +1,10 @@
 //! The left sides of arms.
 
-// Extracted from crates/own_macros/src/lefts.rt by tools/extract: not to be edited.
+// Extracted from crates/macro_owners/src/lefts.rt by tools/extract: not to be edited.
 // That source has the contracts, and is proved. That this text means the same is only tested.
 
 use crate::proved::format_calls::is_mark;
-use crate::proved::own_macros::words::{is_name, is_star, is_written};
+use crate::proved::macro_owners::indexed_words::{is_name, is_star, is_written};
 use crate::proved::rust_trees::Token;
 
 /// Returns whether a token says that a variable is an argument.
@@ -15,7 +15,6 @@ fn is_kind(tokens: &[Token<'_>], index: usize) -> bool {
 }
 
 /// Returns whether a token begins a variable that is an argument, and the comma after it.
-#[inline(never)]
 fn is_argument(tokens: &[Token<'_>], index: usize) -> bool {
     is_mark(tokens, index, b'$')
         && is_name(tokens, index + 1)
@@ -25,7 +24,6 @@ fn is_argument(tokens: &[Token<'_>], index: usize) -> bool {
 }
 
 /// Returns whether a token begins a variable that takes all further tokens.
-#[inline(never)]
 fn is_rest(tokens: &[Token<'_>], index: usize) -> bool {
     is_mark(tokens, index, b'$')
         && is_mark(tokens, index + 1, b'(')
@@ -39,7 +37,6 @@ fn is_rest(tokens: &[Token<'_>], index: usize) -> bool {
 
 /// Returns how many arguments a left side takes before all further tokens, or `None` if it is not
 /// of this form. It starts at one token and ends before another.
-#[inline(never)]
 pub fn argument_count(tokens: &[Token<'_>], from: usize, to: usize) -> Option<usize> {
     let mut count = 0;
     let mut index = from;

@@ -1,6 +1,6 @@
 //! The lines that are written to standard error where there is no answer.
 
-// Extracted from crates/lint_words/src/messages.rt by tools/extract: not to be edited.
+// Extracted from crates/lint_program/src/messages.rt by tools/extract: not to be edited.
 // That source has the contracts, and is proved. That this text means the same is only tested.
 
 use crate::proved::literal_faults::LiteralFault;

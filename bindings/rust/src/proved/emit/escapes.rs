@@ -1,6 +1,6 @@
 //! Texts as the forms have them. A function whose name begins with `put_` appends to `out`.
 
-// Extracted from crates/message_forms/src/escapes.rt by tools/extract: not to be edited.
+// Extracted from crates/emit/src/escapes.rt by tools/extract: not to be edited.
 // That source has the contracts, and is proved. That this text means the same is only tested.
 
 use crate::proved::file_paths::path_bytes;

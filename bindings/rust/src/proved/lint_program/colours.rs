@@ -1,6 +1,6 @@
 //! The choice whether the output is in colours.
 
-// Extracted from crates/lint_words/src/colours.rt by tools/extract: not to be edited.
+// Extracted from crates/lint_program/src/colours.rt by tools/extract: not to be edited.
 // That source has the contracts, and is proved. That this text means the same is only tested.
 
 /// The value of `--color`: when the output is in colours.

@@ -1,15 +1,13 @@
 //! The form of rustc's `--error-format=json`. A function whose name begins with `put_` appends to
 //! `out`.
 
-// Extracted from crates/message_forms/src/json_lines.rt by tools/extract: not to be edited.
+// Extracted from crates/emit/src/json_lines.rt by tools/extract: not to be edited.
 // That source has the contracts, and is proved. That this text means the same is only tested.
 
-use crate::proved::message_forms::members::{
+use crate::proved::emit::members::{
     put_comma, put_count, put_end, put_key, put_text, put_text_or_null, put_truth,
 };
-use crate::proved::message_forms::message::{
-    child_name, level_name, Child, Message, Span, Suggestion,
-};
+use crate::proved::emit::message::{child_name, level_name, Child, Message, Span, Suggestion};
 use crate::shim::alloc::AllocError;
 use crate::shim::prelude::*;
 

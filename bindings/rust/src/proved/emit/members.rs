@@ -2,10 +2,10 @@
 //! returns `Err` if an allocation fails. `is_later` is whether another member of the object comes
 //! before.
 
-// Extracted from crates/message_forms/src/members.rt by tools/extract: not to be edited.
+// Extracted from crates/emit/src/members.rt by tools/extract: not to be edited.
 // That source has the contracts, and is proved. That this text means the same is only tested.
 
-use crate::proved::message_forms::escapes::{put_number, put_quoted};
+use crate::proved::emit::escapes::{put_number, put_quoted};
 use crate::shim::alloc::AllocError;
 use crate::shim::prelude::*;
 

@@ -1,10 +1,10 @@
 //! The form for the workflows of GitHub.
 
-// Extracted from crates/message_forms/src/github.rt by tools/extract: not to be edited.
+// Extracted from crates/emit/src/github.rt by tools/extract: not to be edited.
 // That source has the contracts, and is proved. That this text means the same is only tested.
 
-use crate::proved::message_forms::escapes::put_number;
-use crate::proved::message_forms::message::{level_name, Message, Span};
+use crate::proved::emit::escapes::put_number;
+use crate::proved::emit::message::{level_name, Message, Span};
 use crate::proved::shown_text::{put_shown, Kind};
 use crate::shim::alloc::AllocError;
 use crate::shim::prelude::*;

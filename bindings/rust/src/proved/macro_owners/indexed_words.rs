@@ -1,6 +1,6 @@
 //! Tokens by their index, as words.
 
-// Extracted from crates/own_macros/src/words.rt by tools/extract: not to be edited.
+// Extracted from crates/macro_owners/src/indexed_words.rt by tools/extract: not to be edited.
 // That source has the contracts, and is proved. That this text means the same is only tested.
 
 use crate::proved::format_calls::{is_mark, is_text, is_word, token_at, word};
@@ -23,7 +23,6 @@ pub fn is_name(tokens: &[Token<'_>], index: usize) -> bool {
 }
 
 /// Returns whether two tokens are the same word.
-#[inline(never)]
 pub fn is_same_word(tokens: &[Token<'_>], index: usize, other: usize) -> bool {
     let Some(token) = token_at(tokens, index) else {
         return false;
@@ -46,7 +45,6 @@ pub fn is_star(tokens: &[Token<'_>], index: usize) -> bool {
 }
 
 /// Returns whether a token begins `$($variable)*`, where another token is the name of the variable.
-#[inline(never)]
 pub fn is_copy(tokens: &[Token<'_>], variable: usize, index: usize) -> bool {
     is_mark(tokens, index, b'$')
         && is_mark(tokens, index + 1, b'(')

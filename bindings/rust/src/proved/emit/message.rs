@@ -1,6 +1,6 @@
 //! Messages about files, with notes, helps and suggestions.
 
-// Extracted from crates/message_forms/src/message.rt by tools/extract: not to be edited.
+// Extracted from crates/emit/src/message.rt by tools/extract: not to be edited.
 // That source has the contracts, and is proved. That this text means the same is only tested.
 
 use crate::proved::rust_trees::Place;

@@ -1,14 +1,14 @@
 //! The macros that a file defines, and of which it shows that its calls of their names are theirs.
 
-// Extracted from crates/own_macros/src/own.rt by tools/extract: not to be edited.
+// Extracted from crates/macro_owners/src/own.rt by tools/extract: not to be edited.
 // That source has the contracts, and is proved. That this text means the same is only tested.
 
 use crate::proved::format_calls::{
     calls, closing_token, is_mark, is_standard, token_at, word, Call, Row, Rule, Table,
 };
-use crate::proved::own_macros::arms::rule_of_arms;
-use crate::proved::own_macros::given::Given;
-use crate::proved::own_macros::words::{is_same_word, is_written};
+use crate::proved::macro_owners::arms::rule_of_arms;
+use crate::proved::macro_owners::given::Given;
+use crate::proved::macro_owners::indexed_words::{is_same_word, is_written};
 use crate::proved::rust_trees::{Source, Token};
 use crate::shim::alloc::AllocError;
 use crate::shim::prelude::*;
@@ -19,7 +19,6 @@ fn is_call_of(tokens: &[Token<'_>], name: usize, index: usize) -> bool {
 }
 
 /// Returns whether a token is the name of a crate whose macros are known.
-#[inline(never)]
 fn is_owner(tokens: &[Token<'_>], index: usize) -> bool {
     is_written(tokens, index, "std")
         || is_written(tokens, index, "core")
@@ -42,7 +41,6 @@ fn is_alone(tokens: &[Token<'_>], names: &[Given], name: usize) -> bool {
 }
 
 /// Returns whether a token is none of the names of macros that a file defines.
-#[inline(never)]
 fn is_undefined(tokens: &[Token<'_>], names: &[Given], name: usize) -> bool {
     for given in names {
         let is_definition = is_mark(tokens, given.name.saturating_sub(1), b'!');
@@ -54,7 +52,6 @@ fn is_undefined(tokens: &[Token<'_>], names: &[Given], name: usize) -> bool {
 }
 
 /// Returns whether a call is of a known macro, if its name stands between two tokens.
-#[inline(never)]
 fn is_known(tokens: &[Token<'_>], names: &[Given], name: usize, from: usize, to: usize) -> bool {
     if name <= from || to <= name {
         return true;
@@ -118,7 +115,6 @@ fn is_clear(tokens: &[Token<'_>], name: usize, end: usize, index: usize) -> bool
 
 /// Returns whether each call in a file that has this token as its name stands where a definition of
 /// the name is in sight, and nothing gives the name another macro.
-#[inline(never)]
 fn is_in_sight(source: &Source<'_>, name: usize) -> bool {
     let tokens = source.tokens();
     let end = scope_end(source, name);
@@ -132,7 +128,6 @@ fn is_in_sight(source: &Source<'_>, name: usize) -> bool {
 
 /// Returns the rule of the macro that has one of the names which a file gives, where these are
 /// calls of known macros, or `None` if the file does not show that its calls are of that macro.
-#[inline(never)]
 fn own_rule(source: &Source<'_>, names: &[Given], calls: &[Call], given: Given) -> Option<Rule> {
     let tokens = source.tokens();
     if given.rule.is_none() {
@@ -160,7 +155,6 @@ fn is_plain(token: &Token<'_>) -> bool {
 
 /// Returns the row of the macro that has one of the names which a file gives, where these are calls
 /// of known macros, or `None` if its calls are not read.
-#[inline(never)]
 fn own_row<'a>(
     source: &Source<'a>,
     names: &[Given],
@@ -180,7 +174,6 @@ fn own_row<'a>(
 
 /// Returns the macros of a file whose calls it shows to be theirs, with the rules by which these
 /// are read, where it gives these names to macros and the table has known macros.
-#[inline(never)]
 pub fn own_rows<'a>(
     source: &Source<'a>,
     names: &[Given],

@@ -1,30 +1,16 @@
-//! Findings in the forms of messages.
+//! Findings in the form of JSON.
 
-// Extracted from crates/finding_forms/src/forms.rt by tools/extract: not to be edited.
+// Extracted from crates/emit/src/json_findings.rt by tools/extract: not to be edited.
 // That source has the contracts, and is proved. That this text means the same is only tested.
 
-use crate::proved::fault_rules::RULES;
-use crate::proved::finding_forms::drawings::{put_drawing, MOST};
-use crate::proved::lint_words::Form;
-use crate::proved::message_forms::{
-    put_github, put_json, put_sarif_end, put_sarif_result, put_sarif_start, put_short, Child,
-    ChildLevel, Level, Message, Span, Suggestion,
-};
-use crate::proved::rust_trees::Places;
+use crate::proved::emit::file::{span_of, File};
+use crate::proved::emit::human::{put_human, MOST};
+use crate::proved::emit::json_lines::put_json;
+use crate::proved::emit::message::{Child, ChildLevel, Message, Span, Suggestion};
 use crate::proved::source_report::{is_applicable, suggestion_of, Finding, Help, LabelSuggestion};
 use crate::shim::alloc::AllocError;
 use crate::shim::prelude::*;
 use core::ops::Range;
-
-/// A file that was read.
-pub struct File<'a> {
-    /// The path that is shown.
-    pub path: &'a str,
-    /// Its text.
-    pub text: &'a str,
-    /// The places in it.
-    pub places: Places<'a>,
-}
 
 /// How many traits rustc suggests for one that is unknown.
 const TRAITS: usize = 9;
@@ -79,38 +65,11 @@ fn lines_around(text: &str, start: usize, end: usize) -> Option<&str> {
     }
 }
 
-/// Returns a range of a file as messages have it, without its lines, a label or a suggestion.
-#[inline(never)]
-fn span_of<'a>(file: &File<'a>, range: &Range<usize>) -> Span<'a> {
-    let byte_start = file.text.boundary_at_most(range.start);
-    let byte_end = file.text.boundary_at_most(range.end);
-    Span {
-        byte_start,
-        byte_end,
-        start: file.places.place_of(byte_start),
-        end: file.places.place_of(byte_end),
-        lines: None,
-        is_primary: true,
-        label: None,
-        suggestion: None,
-    }
-}
-
 /// Returns a range of a file as messages of JSON have it, without a label or a suggestion.
 fn json_span<'a>(file: &File<'a>, range: &Range<usize>) -> Span<'a> {
     let mut span = span_of(file, range);
     span.lines = lines_around(file.text, span.byte_start, span.byte_end);
     span
-}
-
-/// Returns the level of a finding.
-#[inline]
-fn level_of(finding: &Finding) -> Level {
-    if finding.is_warning {
-        Level::Warning
-    } else {
-        Level::Error
-    }
 }
 
 /// Returns the labels of a finding as ranges of its message. One that is a suggestion is a child of
@@ -258,24 +217,9 @@ fn children<'a, 's>(
     Ok(children)
 }
 
-/// Appends a message in the form for people: drawn, maybe in colours, or else in a line.
-fn put_human(
-    out: &mut String,
-    colours: bool,
-    width: usize,
-    file: &File<'_>,
-    finding: &Finding,
-    message: &Message<'_>,
-) -> Result<(), AllocError> {
-    if put_drawing(out, colours, width, file, finding)? {
-        return Ok(());
-    }
-    put_short(out, message)
-}
-
 /// Appends a message as a line of JSON, with a drawing of this width.
 #[inline(never)]
-fn put_line<'a>(
+pub fn put_finding_line<'a>(
     out: &mut String,
     width: usize,
     file: &'a File<'a>,
@@ -294,45 +238,4 @@ fn put_line<'a>(
         children.as_slice(),
         rendered.as_str(),
     )
-}
-
-/// Appends a finding in a form.
-#[inline(never)]
-pub fn put_finding<'a>(
-    out: &mut String,
-    form: Form,
-    is_first: bool,
-    file: &'a File<'a>,
-    finding: &'a Finding,
-) -> Result<(), AllocError> {
-    let message = Message {
-        level: level_of(finding),
-        id: finding.id,
-        title: finding.title.as_str(),
-        path: file.path,
-        primary: span_of(file, &finding.span),
-    };
-    match form {
-        Form::Human { colours, width } => put_human(out, colours, width, file, finding, &message),
-        Form::Short => put_short(out, &message),
-        Form::Json { width } => put_line(out, width, file, finding, &message),
-        Form::Github => put_github(out, &message),
-        Form::Sarif => put_sarif_result(out, is_first, &message),
-    }
-}
-
-/// Appends the start of the output, which comes before all messages.
-pub fn put_start(out: &mut String, form: Form, version: &str) -> Result<(), AllocError> {
-    match form {
-        Form::Sarif => put_sarif_start(out, version, RULES.as_slice()),
-        _ => Ok(()),
-    }
-}
-
-/// Appends the end of the output, which comes after all messages.
-pub fn put_end(out: &mut String, form: Form, is_whole: bool) -> Result<(), AllocError> {
-    match form {
-        Form::Sarif => put_sarif_end(out, is_whole),
-        _ => Ok(()),
-    }
 }
